@@ -1,0 +1,4 @@
+pub mod ChangesLemmas
+pub mod DocumentsLemmas
+pub mod KeptLemmas
+pub mod StepLemmas

@@ -1,0 +1,10 @@
+use Rattle.ci_core.proofs.StepLemmas.{answered-kept, unanswered-kept}
+use Rattle.ci_core.proofs.catalog.Catalog.answer.Goals as goal
+
+pub invariant_of-self : goal.invariant_of-self
+invariant_of-self g c =
+    unanswered-kept _ _ _ _ _ c.self.invariant c.args.self.now _ c.args.by c.args.id c.args.at c.args.paths _ c.self.view_is c.requires c.in_err-print.ensures.refused
+
+pub invariant_of-self-2 : goal.invariant_of-self-2
+invariant_of-self-2 g c =
+    answered-kept _ _ _ _ _ c.self.invariant c.args.self.now _ c.args.by c.args.id c.args.at c.args.paths c.self.view_is c.requires c.in_ok-print.ensures.ok

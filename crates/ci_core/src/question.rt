@@ -1,0 +1,28 @@
+ghost use Rattle.std.specs.Prelude.{◌≡◌, IfOk};
+ghost use Rattle.ci_core.specs.Documents.{word_hits};
+
+use crate::Plain;
+use ci_base::{OutOfMemory, Text};
+use ci_journal::Paths;
+use std::alloc::Global;
+
+/// A query that was opened, with all that answering it needs.
+#[derive(Debug, Drop)]
+pub struct Question {
+    /// The number of its request.
+    pub id: u64,
+    /// The journal's length right behind its opening.
+    pub at: u64,
+    pub word: Text,
+    /// The documents at that point.
+    pub plain: Plain,
+}
+
+impl Question {
+    /// The paths of the documents that have the word, in byte order.
+    pub fn hits(&self, alloc: Global) -> Result<Paths, OutOfMemory>
+        ensures { IfOk result (λ paths. paths ≡ word_hits self.now.word self.now.plain) }
+    {
+        self.plain.hits(alloc, &self.word)
+    }
+}

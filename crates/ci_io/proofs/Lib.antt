@@ -1,0 +1,4 @@
+pub mod Feeds
+pub mod FirstLines
+pub mod Held
+pub mod TakenLines

@@ -1,0 +1,7 @@
+pub mod Adapters
+pub mod Causes
+pub mod Lines
+pub mod Memory
+pub mod Putting
+pub mod ReadLine
+pub mod Reading

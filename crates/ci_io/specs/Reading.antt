@@ -1,0 +1,84 @@
+-- What a reader of lines holds and has still to read.
+use Rattle.std.specs.Prelude.{◌≡◌, ℕ, ◌<◌, ◌≤◌, Bool, true, false, List, [], ◌∷◌, ◌++◌, Option, Some, None, ⊤, IfSome, length}
+use Rattle.std.specs.Io.KnownBytes.{prepend_known, Keeps, Consumes, IsAtEnd}
+use Rattle.ci_io.specs.declared.line.TheConstants.{LINE_BYTES}
+use Rattle.ci_io.specs.Lines.{raw_lines, without_return, HasNoFeed, IsFirstLine}
+
+-- a reader: the bytes that it took from its source and hasn't handed out, those that the source has left
+-- where it tells them, the source's count of faults, and whether the source has told its end
+pub record Reading : Type 0 where
+  pub held : List ℕ
+  pub left : Option (List ℕ)
+  pub faults : ℕ
+  pub ended : Bool
+
+-- all bytes that are still to be read, where the source tells them
+abbrev pub ahead : Reading → Option (List ℕ)
+ahead r = prepend_known r.held r.left
+
+-- known bytes lost their first line, which has at most LINE_BYTES bytes; the text is that line without its return
+abbrev pub TakesLine : Option (List ℕ) → Option (List ℕ) → List ℕ → Type 0
+TakesLine None new text = ⊤
+TakesLine (Some all) None text = ⊥
+TakesLine (Some all) (Some rest) text =
+    (raw : List ℕ) × (length raw ≤ LINE_BYTES) × (text ≡ without_return raw) × IsFirstLine raw all rest
+
+-- known bytes lost their first line and the line feed that ended it; the text is that line without its return
+abbrev pub TakesFed : Option (List ℕ) → Option (List ℕ) → List ℕ → Type 0
+TakesFed None new text = ⊤
+TakesFed (Some all) None text = ⊥
+TakesFed (Some all) (Some rest) text =
+    (raw : List ℕ) × (text ≡ without_return raw) × HasNoFeed raw × (all ≡ raw ++ 10 ∷ rest)
+
+-- the reader gave all that was ahead, which had no line feed
+pub record TakesAll (old new : Reading) : Type 0 where
+  pub whole : IfSome (ahead old) HasNoFeed
+  pub held : new.held ≡ []
+  pub left : IsAtEnd new.left
+
+-- the reader has reached the end, and the source has told it: nothing was ahead, and nothing is
+pub record IsOver (old new : Reading) : Type 0 where
+  pub held_before : old.held ≡ []
+  pub held_after : new.held ≡ []
+  pub ended_before : IsAtEnd (ahead old)
+  pub ended_after : IsAtEnd (ahead new)
+  pub kept : Keeps (ahead old) (ahead new)
+  pub told : new.ended ≡ true
+
+-- the source hadn't told its end, and still hasn't
+abbrev pub IsBeforeEnd : Reading → Reading → Type 0
+IsBeforeEnd old new = (old.ended ≡ false) × (new.ended ≡ false)
+
+-- the source is as it was
+pub record LeavesSource (old new : Reading) : Type 0 where
+  pub left : new.left ≡ old.left
+  pub faults : new.faults ≡ old.faults
+
+-- nothing follows the held bytes, which are one line at most
+pub record IsLastLine (held : List ℕ) (left : Option (List ℕ)) : Type 0 where
+  pub whole : HasNoFeed held
+  pub short : length held ≤ LINE_BYTES
+  pub ended : IsAtEnd left
+
+-- the bytes have no line feed, and are more than a line may have
+abbrev pub IsTooLong : List ℕ → Type 0
+IsTooLong bytes = (LINE_BYTES < length bytes) × HasNoFeed bytes
+
+-- known bytes begin with a line of over LINE_BYTES bytes
+abbrev pub BeginsTooLong : Option (List ℕ) → Type 0
+BeginsTooLong None = ⊤
+BeginsTooLong (Some all) = (raw : List ℕ) × (rest : List (List ℕ)) × (raw_lines all ≡ raw ∷ rest) × (LINE_BYTES < length raw)
+
+-- the reader took some bytes from its source, and holds them behind those that it held
+pub record Gathers (old new : Reading) : Type 0 where
+  pub part : List ℕ
+  pub held : new.held ≡ old.held ++ part
+  pub left : Consumes old.left new.left part
+
+-- the n bytes that the source gave stand behind the held ones; it gives none only at its end
+pub record Refills (old new : List ℕ) (before after : Option (List ℕ)) (n : ℕ) : Type 0 where
+  pub part : List ℕ
+  pub count : length part ≡ n
+  pub held : new ≡ old ++ part
+  pub left : Consumes before after part
+  pub ended : n ≡ 0 → IsAtEnd after

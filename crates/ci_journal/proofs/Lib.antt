@@ -1,0 +1,3 @@
+pub mod FoldsLemmas
+pub mod RequestLemmas
+pub mod RunLemmas

@@ -1,0 +1,19 @@
+//! What happens in a session, as a journal of events, and what the journal's definitions say of it.
+#![tactic(auto)]
+
+mod counted;
+mod event;
+mod journal;
+mod notice;
+mod paths;
+mod printed;
+mod reply;
+mod request;
+
+pub use counted::{EVENT_BYTES, asked_bytes, noted_bytes, put_bytes};
+pub use event::{Event, Happened};
+pub use journal::Journal;
+pub use notice::{Notice, What};
+pub use paths::Paths;
+pub use reply::Reply;
+pub use request::Request;

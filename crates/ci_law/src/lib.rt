@@ -1,0 +1,6 @@
+//! What every run says of each of its places.
+#![tactic(auto)]
+
+mod places;
+
+pub use places::law;

@@ -1,0 +1,15 @@
+//! Tests of the whole catalogue over objects in memory: worked sessions as tables, and each call that takes memory.
+#![tactic(auto)]
+
+#[cfg(test)]
+mod base;
+#[cfg(test)]
+mod catalogue;
+#[cfg(test)]
+mod lines;
+#[cfg(test)]
+mod pieces;
+#[cfg(test)]
+mod session;
+#[cfg(test)]
+mod words;

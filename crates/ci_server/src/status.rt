@@ -1,0 +1,77 @@
+ghost use Rattle.std.specs.Prelude.{◌≡◌};
+ghost use Rattle.ci_server.specs.Status.{status_of_core, status_of_read, exit_code};
+
+use ci_core::CoreFault;
+use ci_io::ReadFault;
+
+/// How a session ended.
+#[derive(Clone, Copy, Debug, PartialEq, Eq)]
+pub enum Status {
+    /// The source was read to its end.
+    Done,
+    /// The command line isn't one that the program takes.
+    Usage,
+    /// The source failed.
+    ReadFault,
+    /// The sink failed.
+    WriteFault,
+    /// The journal's bytes, `used`, and those of the refused step's event, `more`, are above the setting.
+    JournalFull { used: u64, more: u64 },
+    OutOfMemory,
+    /// A line has more bytes than a line may have.
+    EndlessLine,
+}
+
+impl Status {
+    /// The process' exit status.
+    pub fn exit_code(self) -> u8
+        ensures { result ≡ exit_code self }
+    {
+        match self {
+            Status::Done => 0,
+            Status::Usage => 2,
+            Status::ReadFault => 3,
+            Status::WriteFault => 4,
+            Status::JournalFull { .. } => 8,
+            Status::OutOfMemory => 10,
+            Status::EndlessLine => 12,
+        }
+    }
+
+    /// The name that is printed where a session didn't end well, without fields.
+    pub fn name(self) -> &'static str {
+        match self {
+            Status::Done => "Done",
+            Status::Usage => "Usage",
+            Status::ReadFault => "ReadFault",
+            Status::WriteFault => "WriteFault",
+            Status::JournalFull { .. } => "JournalFull",
+            Status::OutOfMemory => "OutOfMemory",
+            Status::EndlessLine => "EndlessLine",
+        }
+    }
+}
+
+impl From<CoreFault> for Status {
+    ghost from_gives = { λ fault status. status ≡ status_of_core fault };
+
+    fn from(fault: CoreFault) -> Status {
+        match fault {
+            CoreFault::JournalFull { used, more } => Status::JournalFull { used, more },
+            CoreFault::OutOfMemory => Status::OutOfMemory,
+            CoreFault::WriteFault => Status::WriteFault,
+        }
+    }
+}
+
+impl From<ReadFault> for Status {
+    ghost from_gives = { λ fault status. status ≡ status_of_read fault };
+
+    fn from(fault: ReadFault) -> Status {
+        match fault {
+            ReadFault::Failed => Status::ReadFault,
+            ReadFault::Endless => Status::EndlessLine,
+            ReadFault::OutOfMemory => Status::OutOfMemory,
+        }
+    }
+}
