@@ -3,7 +3,7 @@
 use ci_base::{PathText, Seq, Text, Text8};
 use ci_core::{Catalog, CoreFault, Settings};
 use ci_io::{Line, SureMemorySink};
-use ci_journal::{Happened, Paths, Reply, Request, What};
+use ci_journal::{Happened, Notice, Paths, Reply, Request, What};
 use std::alloc::Global;
 use std::test::Fail;
 
@@ -74,6 +74,17 @@ fn events_print_and_copy(rt: HostRuntime) -> Result<(), Fail> {
             64 + 16,
         ),
         (Happened::Opened { id: 1 }, "", 64),
+        (
+            Happened::Noted {
+                notice: Notice {
+                    path: path(alloc, "/a")?,
+                    seq: Seq(1),
+                    what: What::Changed,
+                },
+            },
+            "",
+            64 + 10,
+        ),
     ];
     for (what, lines, bytes) in rows {
         let event = ci_journal::Event { by: 0, what };

@@ -2,8 +2,8 @@
 
 use ci_base::Text8;
 use ci_io::{
-    Failed, Line, LineReader, MemorySink, MemorySource, ReadFault, Source, SureMemorySource,
-    put_all,
+    Failed, Line, LineReader, MemorySink, MemorySource, ReadFault, Source, SureMemorySink,
+    SureMemorySource, put_all,
 };
 use std::alloc::Global;
 use std::test::Fail;
@@ -77,5 +77,23 @@ fn a_sink_takes_what_fits(rt: HostRuntime) -> Result<(), Fail> {
     assert!(rt; put_all(&mut sink, b"efghij").is_err());
     assert_eq!(rt; sink.bytes(), b"abcdefgh".as_slice());
     assert_eq!(rt; sink.copy(alloc)?.bytes(), b"abcdefgh".as_slice());
+    Ok(())
+}
+
+#[test]
+fn copies_give_the_same_bytes(rt: HostRuntime) -> Result<(), Fail> {
+    let alloc = rt.alloc();
+    let text = Line::Text(Text8::of(alloc, b"red")?);
+    assert!(rt; text.copy(alloc)? == text);
+
+    let mut out = [0; 8];
+    let source = SureMemorySource::new(alloc, Text8::of(alloc, b"fox")?);
+    assert!(rt; source.copy(alloc)?.take(&mut out) == Ok(3));
+    let source = MemorySource::new(alloc, Text8::of(alloc, b"fox")?, vec![in alloc; 0]?);
+    assert!(rt; source.copy(alloc)?.take(&mut out) == Err(Failed));
+
+    let mut sink = SureMemorySink::new(alloc, 4, 8)?;
+    assert!(rt; put_all(&mut sink, b"abcd").is_ok());
+    assert_eq!(rt; sink.copy(alloc)?.bytes(), b"abcd".as_slice());
     Ok(())
 }
