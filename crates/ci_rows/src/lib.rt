@@ -2,14 +2,8 @@
 #![tactic(auto)]
 
 #[cfg(test)]
-mod base;
-#[cfg(test)]
 mod catalogue;
-#[cfg(test)]
-mod lines;
 #[cfg(test)]
 mod pieces;
 #[cfg(test)]
 mod session;
-#[cfg(test)]
-mod words;

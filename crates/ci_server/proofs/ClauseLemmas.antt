@@ -15,7 +15,8 @@ use Rattle.ci_server.specs.Session.{InTurns, IsWhole, EndsBetween, AsksFirst, As
 use Rattle.ci_server.proofs.EndsLemmas.{Rose-read_fault, Rose-write_fault}
 use Rattle.ci_server.proofs.ProgressLemmas.{Progress-none}
 use Rattle.ci_server.proofs.ServedLemmas.{Appends-none, Keeps-refl}
-use Rattle.ci_server.proofs.SessionLemmas.{InTurns-ends, IsWhole-done, IsWhole-read_fault, IsWhole-endless, Appends-ends, PrintsCut-ends, IsFullAt-ends, AsksFirst-ends, AsksAll-done, AsksTaken-read_fault, AsksTaken-endless, ComesTooLong-ends}
+use Rattle.ci_server.proofs.SessionLemmas.{InTurns-ends, IsWhole-done, IsWhole-read_fault, IsWhole-endless, Appends-ends, PrintsCut-ends, IsFullAt-ends}
+use Rattle.ci_server.proofs.LineLemmas.{AsksFirst-ends, AsksAll-done, AsksTaken-read_fault, AsksTaken-endless, ComesTooLong-ends}
 
 -- there was no memory for a reader
 pub Ends-unread : (first : Reading) (start : Core) → start.events ≡ [] → Ends first start first start OutOfMemory

@@ -3,6 +3,8 @@ pub mod EndsLemmas
 pub mod ProgressLemmas
 pub mod QueryLemmas
 pub mod ServedLemmas
+pub mod CutLemmas
+pub mod LineLemmas
 pub mod SessionLemmas
 pub mod StepsLemmas
 pub mod TurnLemmas

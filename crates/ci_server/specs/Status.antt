@@ -1,5 +1,5 @@
--- The status that a refusal ends a session with.
-use Rattle.std.specs.Prelude.{ℕ}
+-- The status that a refusal ends a session with, and how it is told.
+use Rattle.std.specs.Prelude.{ℕ, List, codes}
 use Rattle.ci_io.specs.declared.read_fault.ReadFault.{ReadFault as LineFault}
 use Rattle.ci_io.specs.declared.read_fault.ReadFault.TheVariants as line
 use Rattle.ci_core.specs.declared.core_fault.CoreFault.{CoreFault}
@@ -26,3 +26,13 @@ exit_code WriteFault = 4
 exit_code (JournalFull used more) = 8
 exit_code OutOfMemory = 10
 exit_code EndlessLine = 12
+
+-- the name that is printed where a session didn't end well
+abbrev pub status_name : Status → List ℕ
+status_name Done = codes "Done"
+status_name Usage = codes "Usage"
+status_name ReadFault = codes "ReadFault"
+status_name WriteFault = codes "WriteFault"
+status_name (JournalFull used more) = codes "JournalFull"
+status_name OutOfMemory = codes "OutOfMemory"
+status_name EndlessLine = codes "EndlessLine"

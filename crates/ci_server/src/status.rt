@@ -1,5 +1,5 @@
 ghost use Rattle.std.specs.Prelude.{◌≡◌};
-ghost use Rattle.ci_server.specs.Status.{status_of_core, status_of_read, exit_code};
+ghost use Rattle.ci_server.specs.Status.{status_of_core, status_of_read, exit_code, status_name};
 
 use ci_core::CoreFault;
 use ci_io::ReadFault;
@@ -39,7 +39,9 @@ impl Status {
     }
 
     /// The name that is printed where a session didn't end well, without fields.
-    pub fn name(self) -> &'static str {
+    pub fn name(self) -> &'static str
+        ensures { result.now ≡ status_name self }
+    {
         match self {
             Status::Done => "Done",
             Status::Usage => "Usage",

@@ -2,7 +2,7 @@ use Rattle.std.proofs.Common.{◌∙◌, [], ap, refl, false}
 use Rattle.ci_io.specs.Reading.{Reading, ahead}
 use Rattle.ci_law.proofs.LawLemmas.{AllAnswer-run}
 use Rattle.ci_server.proofs.ClauseLemmas.{Ends-unread, complete, turns, whole, lines, all_lines, endless, taken_at_fault, taken_at_long, all_printed, cut_off, journal_full}
-use Rattle.ci_server.proofs.SessionLemmas.{ahead-fresh}
+use Rattle.ci_server.proofs.LineLemmas.{ahead-fresh}
 use Rattle.ci_server.proofs.steps.run_steps.Goals as goal
 
 pub returns-in-Ok-clause-turns : goal.returns-in-Ok-clause-turns

@@ -1,0 +1,9 @@
+pub mod FilterLemmas
+pub mod GreatestLemmas
+pub mod HandedInLemmas
+pub mod LoopLemmas
+pub mod OrderLemmas
+pub mod PendingLemmas
+pub mod RegisterLemmas
+pub mod RowsLemmas
+pub mod UpToDateLemmas

@@ -1,0 +1,7 @@
+pub mod ChangeList
+pub mod HandedIn
+pub mod Order
+pub mod Past
+pub mod Pending
+pub mod Register
+pub mod Rows

@@ -1,0 +1,26 @@
+-- The pending notices by number, as a register keeps them: each entry names the place of its path.
+use Rattle.std.specs.Prelude.{◌==◌, ◌<◌, ◌++◌, ℕ, not, nat_le, nat_lt, All, List, [], ◌∷◌, filter, length, if◌then◌else◌}
+use Rattle.std.specs.List.Sorted.{IsStrictlySortedBy}
+use Rattle.std.specs.Map.{keys_of}
+use Rattle.std.specs.Ordering.{nat_cmp}
+use Rattle.ci_change.specs.declared.order.Entry.{Entry}
+use Rattle.ci_change.specs.declared.rows.Numbers.{Numbers}
+
+-- the entries without the one at a number
+abbrev pub without_entry : ℕ → List (ℕ × Entry) → List (ℕ × Entry)
+without_entry number order = filter (λ e. not (e.0 == number)) order
+
+-- the entries when a path with these numbers has a newer one, which waits if it isn't served
+abbrev pub renewed : List (ℕ × Entry) → Numbers → ℕ × Entry → List (ℕ × Entry)
+renewed order numbers newest =
+    without_entry numbers.latest order
+    ++ (if nat_lt numbers.served newest.0 then newest ∷ [] else [])
+
+-- the entries when a path whose latest number this is was served up to a number
+abbrev pub retired : List (ℕ × Entry) → ℕ → ℕ → List (ℕ × Entry)
+retired order latest served = if nat_le latest served then without_entry latest order else order
+
+-- each entry names the place of a path, and the numbers ascend
+pub record IsIndexed (rows : List (List ℕ × Numbers)) (order : List (ℕ × Entry)) : Type 0 where
+  pub places : All (λ e. e.1.place < length rows) order
+  pub ordered : IsStrictlySortedBy nat_cmp (keys_of order)

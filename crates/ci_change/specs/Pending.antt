@@ -1,0 +1,69 @@
+-- Which notices are pending, and which of these a batch may take.
+use Rattle.std.specs.Prelude.{◌==◌, ℕ, Bool, true, false, ◌&&◌, not, max, nat_lt, List, [], ◌∷◌, bytes_eq, filter, map, IsPermutation}
+use Rattle.std.specs.Cmp.Lexicographic.{slice_cmp}
+use Rattle.std.specs.List.{list_any}
+use Rattle.std.specs.List.Sorted.{IsSortedByKey}
+use Rattle.std.specs.Ordering.{nat_cmp}
+use Rattle.ci_base.specs.declared.numbers.Seq.{Seq}
+use Rattle.ci_change.specs.declared.batch.Batch.{Batch}
+use Rattle.ci_change.specs.declared.notice.Notice.{Notice}
+use Rattle.ci_change.specs.declared.notice.What.{What}
+use Rattle.ci_change.specs.declared.notice.What.TheVariants.{Changed, Deleted}
+use Rattle.ci_change.specs.HandedIn.{HandedIn}
+
+-- the greatest of some numbers, or 0
+abbrev pub greatest : List ℕ → ℕ
+greatest [] = 0
+greatest (n ∷ ns) = max n (greatest ns)
+
+-- the number of a path's latest notice, which is its greatest since numbers ascend, or 0
+abbrev pub latest_number : List Notice → List ℕ → ℕ
+latest_number notices path =
+    greatest (map (λ n. n.seq.0) (filter (λ n. bytes_eq n.path path) notices))
+
+-- a path's served number: the greatest that was handed in for it, or 0
+abbrev pub served_number : List (List ℕ × Seq) → List ℕ → ℕ
+served_number served path =
+    greatest (map (λ s. s.1.0) (filter (λ s. bytes_eq s.0 path) served))
+
+-- a notice is pending where it is the latest of its path, and above the path's served number
+abbrev pub is_pending : List Notice → List (List ℕ × Seq) → Notice → Bool
+is_pending notices served n =
+    (n.seq.0 == latest_number notices n.path) && nat_lt (served_number served n.path) n.seq.0
+
+-- the pending ones of some notices, under these served numbers
+abbrev pub pending_of : List Notice → List (List ℕ × Seq) → List Notice
+pending_of notices served = filter (is_pending notices served) notices
+
+-- the pending notices, in the order in which they came
+abbrev pub pending : HandedIn → List Notice
+pending handed = pending_of handed.notices handed.served
+
+abbrev pub is_changed : What → Bool
+is_changed Changed = true
+is_changed Deleted = false
+
+-- one of the documents has the path
+abbrev pub has_path : List (List ℕ × Seq) → List ℕ → Bool
+has_path docs path = list_any (λ d. bytes_eq d.0 path) docs
+
+-- a batch that is out has the path
+abbrev pub is_out : List Batch → List ℕ → Bool
+is_out out path = list_any (λ b. has_path b.docs path) out
+
+-- a pending Changed notice is free where no batch that is out has its path
+abbrev pub is_free : List Batch → Notice → Bool
+is_free out n = is_changed n.what && not (is_out out n.path)
+
+-- the free notices, in the order in which they came
+abbrev pub free : HandedIn → List Notice
+free handed = filter (is_free handed.out) (pending handed)
+
+-- the documents of some notices, each with the number of its notice
+abbrev pub docs_of : List Notice → List (List ℕ × Seq)
+docs_of notices = map (λ n. (n.path, n.seq)) notices
+
+-- the same notices, in byte order of their paths
+pub record ListsByPath (notices list : List Notice) : Type 0 where
+  pub same : IsPermutation notices list
+  pub order : IsSortedByKey (λ n. n.path) (slice_cmp nat_cmp) list

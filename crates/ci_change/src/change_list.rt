@@ -1,0 +1,120 @@
+ghost use Rattle.std.specs.Prelude.{◌≡◌, ◌<◌, ◌≤◌, ◌↔◌, [], All, take, IsTrue, IsOk, IfOk, OnOk, OnErr};
+
+use crate::past::Past;
+use crate::register::Register;
+use crate::{Batch, Notice, What};
+use ci_base::{OutOfMemory, PathText, Seq};
+use std::alloc::Global;
+use std::marker::Model;
+
+/// The notices of changed and deleted documents: which are pending, in the order in which they
+/// came, and which batches of them are out. Contracts see what was handed in.
+#[derive(Drop)]
+pub struct ChangeList {
+    alloc: Global,
+    retries: u32,
+    register: Register,
+    out: Vec<Batch>,
+    past: Past,
+}
+
+impl Model for ChangeList {
+    ghost use Rattle.ci_change.specs.HandedIn.{HandedIn};
+    ghost use Rattle.ci_change.specs.ChangeList.{IsUpToDate};
+
+    ghost Value = { HandedIn };
+
+    ghost view = { λ c. record {
+      notices = c.past.notices;
+      served = c.past.served;
+      out = c.out.items;
+      retries = c.retries;
+    } };
+
+    ghost invariant = { λ c. IsUpToDate c.past c.register };
+}
+
+impl ChangeList {
+    ghost use Rattle.ci_change.specs.HandedIn.{is_known, nothing, notice_of};
+    ghost use Rattle.ci_change.specs.HandedIn.{with_notice, with_served};
+    ghost use Rattle.ci_change.specs.HandedIn.{with_batch, without_batch};
+    ghost use Rattle.ci_change.specs.Pending as spec;
+
+    /// Nothing handed in yet. A document is to be tried so many times.
+    pub fn new(alloc: Global, retries: u32) -> ChangeList
+        ensures { result ≡ nothing retries }
+    {
+        ChangeList {
+            alloc,
+            retries,
+            register: Register::new(alloc),
+            out: Vec::new(alloc),
+            past: Past::new(),
+        }
+    }
+
+    /// The path's latest notice is this one, which comes last.
+    pub fn note(&mut self, path: &PathText, seq: Seq, what: What) -> Result<(), OutOfMemory>
+        requires { All (λ n. n.seq.0 < seq.0) self.old.notices }
+        ensures ok { let notice = notice_of path.now seq what in
+            OnOk result (self.new ≡ with_notice self.old notice) }
+        ensures err { OnErr result (self.new ≡ self.old) }
+    {
+        self.register.note(self.alloc, path, seq, what)?;
+        self.past = self.past.noted(path, seq, what);
+        Ok(())
+    }
+
+    /// Takes out the first free notices, at most `max`, as a batch.
+    pub fn take_batch(&mut self, number: u64, max: usize) -> Result<Batch, OutOfMemory>
+        requires { 1 ≤ max }
+        ensures batch { let docs = spec.docs_of (take max (spec.free self.old)) in
+            IfOk result (λ b. b ≡ record { number = number; docs = docs }) }
+        ensures out { IfOk result (λ b. self.new ≡ with_batch self.old b) }
+        ensures empty { IfOk result (λ b. (b.docs ≡ []) ↔ (spec.free self.old ≡ [])) }
+        ensures err { OnErr result (self.new ≡ self.old) }
+    {
+        let docs = self
+            .register
+            .free_docs(self.alloc, self.out.as_slice(), max)?;
+        let batch = Batch { number, docs };
+        if !batch.docs.items().is_empty() {
+            self.out.push(batch.copy(self.alloc)?)?;
+        }
+        Ok(batch)
+    }
+
+    /// The batch is out no more.
+    pub fn give_back(&mut self, batch: &Batch)
+        ensures { self.new ≡ without_batch self.old batch.now.number }
+    {
+        self.out.retain(|out| out.number != batch.number);
+    }
+
+    /// The path is served up to this number. That takes memory only for a path that is new.
+    pub fn served(&mut self, path: &PathText, seq: Seq) -> Result<(), OutOfMemory>
+        ensures ok { OnOk result (self.new ≡ with_served self.old path.now seq) }
+        ensures err { OnErr result (self.new ≡ self.old) }
+        ensures known { IsTrue (is_known self.old path.now) → IsOk result }
+    {
+        self.register.serve(self.alloc, path, seq)?;
+        self.past = self.past.served(path, seq);
+        Ok(())
+    }
+
+    /// The path's served number, or 0.
+    pub fn served_of(&self, path: &PathText) -> Seq
+        ensures { result ≡ record { 0 = spec.served_number self.now.served path.now } }
+    {
+        Seq(self.register.served_of(path))
+    }
+
+    /// A copy of the pending notices, in byte order of their paths.
+    pub fn pending(&self) -> Result<Vec<Notice>, OutOfMemory>
+        ensures { IfOk result (λ list. spec.ListsByPath (spec.pending self.now) list.items) }
+    {
+        let mut list = self.register.notices(self.alloc)?;
+        list.sort_unstable_by(|a, b| a.path.cmp(&b.path));
+        Ok(list)
+    }
+}

@@ -1,0 +1,76 @@
+ghost use Rattle.std.specs.Prelude.{◌≡◌, ◌<◌, ℕ, List, Some, length, slice_get, IsTrue, IsOk, IfOk};
+ghost use Rattle.std.specs.Map.{keys_of};
+ghost use Rattle.ci_change.specs.Rows.{has_row, numbers_at, KeepsRows, Puts};
+
+use ci_base::{OutOfMemory, PathText};
+use indexmap::IndexMap;
+use std::alloc::Global;
+
+/// The number of a path's latest notice, and its served number. 0 stands for none.
+#[derive(Clone, Copy, Debug)]
+pub struct Numbers {
+    pub latest: u64,
+    pub served: u64,
+}
+
+/// The rows of paths. None is ever taken out, so a path keeps its place.
+pub type Rows = IndexMap<PathText, Numbers>;
+
+/// The place of a path, which gets a row where it has none.
+pub fn place_of(rows: &mut Rows, alloc: Global, path: &PathText) -> Result<usize, OutOfMemory>
+    ensures place { IfOk result (λ at. slice_get (keys_of rows.new.entries) at ≡ Some path.now) }
+    ensures within { IfOk result (λ at. at < length rows.new.entries) }
+    ensures keeps { KeepsRows rows.old.entries rows.new.entries }
+    ensures known { IsTrue (has_row rows.old.entries path.now) → IsOk result }
+{
+    match rows.get_index_of(path) {
+        Some(place) => Ok(place),
+        None => {
+            let none = Numbers {
+                latest: 0,
+                served: 0,
+            };
+            let place = rows.len();
+            rows.insert(path.copy(alloc)?, none)?;
+            Ok(place)
+        }
+    }
+}
+
+/// The path at a place.
+pub fn path_at(rows: &Rows, place: usize) -> &PathText
+    requires { place < length rows.now.entries }
+    ensures { slice_get (keys_of rows.now.entries) place ≡ Some result.now }
+{
+    rows.get_index(place).unwrap().0
+}
+
+/// The numbers of the path at a place.
+pub fn numbers_of(rows: &Rows, place: usize) -> Numbers
+    requires { place < length rows.now.entries }
+    ensures { (path : List ℕ) → slice_get (keys_of rows.now.entries) place ≡ Some path →
+        result ≡ numbers_at rows.now.entries path }
+{
+    *rows.get_index(place).unwrap().1
+}
+
+/// Gives the path at a place new numbers.
+pub fn put_numbers(rows: &mut Rows, place: usize, numbers: Numbers)
+    requires { place < length rows.old.entries }
+    ensures paths { keys_of rows.new.entries ≡ keys_of rows.old.entries }
+    ensures puts { (path : List ℕ) → slice_get (keys_of rows.old.entries) place ≡ Some path →
+        Puts rows.old.entries rows.new.entries path numbers }
+{
+    let (_, kept) = rows.pair_mut(place);
+    *kept = numbers;
+}
+
+/// The served number of a path, or 0.
+pub fn served_of(rows: &Rows, path: &PathText) -> u64
+    ensures { result ≡ (numbers_at rows.now.entries path.now).served }
+{
+    match rows.get(path) {
+        Some(numbers) => numbers.served,
+        None => 0,
+    }
+}

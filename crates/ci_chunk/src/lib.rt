@@ -1,0 +1,16 @@
+//! What filters say of documents: statuses, chunks, the pieces that chunks come to, and filters.
+#![tactic(auto)]
+
+mod chunk;
+mod filter;
+mod piece;
+mod status;
+mod talk;
+mod transcript;
+
+pub use chunk::{Break, ChunkState, StatChunk};
+pub use filter::Filter;
+pub use piece::Piece;
+pub use status::Status;
+pub use talk::{Answer, Call, FilterStop};
+pub use transcript::Transcript;

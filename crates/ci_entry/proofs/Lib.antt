@@ -1,0 +1,12 @@
+pub mod GatherLemmas
+pub mod GroupLemmas
+pub mod GroupedLemmas
+pub mod InOrderLemmas
+pub mod KeptLemmas
+pub mod ListLemmas
+pub mod OrderLemmas
+pub mod PlaceLemmas
+pub mod RunLemmas
+pub mod SizeLemmas
+pub mod StandLemmas
+pub mod ValueLemmas

@@ -1,0 +1,4 @@
+pub mod Beside
+pub mod Keys
+pub mod Search
+pub mod OneForm

@@ -1,0 +1,5 @@
+pub mod Entry
+pub mod Key
+pub mod Order
+pub mod Places
+pub mod Postings

@@ -1,0 +1,4 @@
+pub mod Entries
+pub mod Indexed
+pub mod PlacesLemmas
+pub mod Prefixes

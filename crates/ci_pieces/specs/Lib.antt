@@ -1,0 +1,5 @@
+pub mod Bytes
+pub mod Cut
+pub mod Finds
+pub mod Front
+pub mod Pieces

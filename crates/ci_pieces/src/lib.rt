@@ -1,0 +1,10 @@
+//! The pieces of a query: its text cut into signs, runs, quoted pieces, names and values.
+#![tactic(auto)]
+
+mod bytes;
+mod cut;
+mod front;
+mod piece;
+
+pub use cut::pieces;
+pub use piece::{Piece, PieceKind};

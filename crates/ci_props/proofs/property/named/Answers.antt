@@ -1,0 +1,14 @@
+use Rattle.std.proofs.Common.{rules, ◌≡◌, map, refl, ap}
+use Rattle.std.specs.Str.{str_eq_ignore_ascii_case}
+use Rattle.std.specs.Option.{option_map}
+use Rattle.std.proofs.lemmas.Iterator.{YieldsList-from_slice}
+use Rattle.std.proofs.lemmas.Iterator.Search.{find_from_yields_List}
+use Rattle.ci_props.specs.Table.{table}
+use Rattle.ci_props.proofs.Rows.{as_row, of_found_row}
+use Rattle.ci_props.proofs.property.named.Goals as goal
+
+pub returns : goal.returns
+returns c =
+    let found = find_from_yields_List (λ x. str_eq_ignore_ascii_case x.1.now c.args.name.now) _ _ c.find.result c.find.ensures.ran (YieldsList-from_slice c.iter.result.rest.now refl) (λ x b q k. search rules) in
+    let read : c.map.result ≡ option_map (λ row. record { 0 = row.now.0 }) c.find.result = search rules in
+    of_found_row (λ x. x.now) (λ row. record { 0 = row.number }) (λ row. str_eq_ignore_ascii_case row.name c.args.name.now) c.iter.result.rest.now table c.find.result c.map.result (ap (map as_row) c.iter.ensures.rest) read found

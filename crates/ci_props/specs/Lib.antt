@@ -1,0 +1,4 @@
+pub mod Compare
+pub mod Pattern
+pub mod Stops
+pub mod Table

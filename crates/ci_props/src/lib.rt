@@ -1,0 +1,10 @@
+//! The properties of documents: their numbers, names and kinds, and how their values compare.
+#![tactic(auto)]
+
+mod pattern;
+mod property;
+mod relation;
+
+pub use pattern::matches_pattern;
+pub use property::{Kind, kind_of, named};
+pub use relation::{Relation, compare};

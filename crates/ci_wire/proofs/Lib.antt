@@ -1,0 +1,5 @@
+pub mod NumbersLemmas
+pub mod BodyLemmas
+pub mod FrontLemmas
+pub mod StreamLemmas
+pub mod LawLemmas
