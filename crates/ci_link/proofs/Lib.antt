@@ -1,0 +1,4 @@
+pub mod PiecesLemmas
+pub mod DocumentLemmas
+pub mod LineLemmas
+pub mod TalkLemmas

@@ -1,0 +1,39 @@
+use Rattle.std.proofs.Common.{[]}
+use Rattle.std.proofs.lemmas.Result.{err_from_is_err_and}
+use Rattle.ci_wire.proofs.BodyLemmas.{same_err}
+use Rattle.ci_link.proofs.LineLemmas.{exchanges_none}
+use Rattle.ci_link.proofs.TalkLemmas.{dies_within, goes_on, illegal_within, reads_done}
+use Rattle.ci_link.proofs.daemon.Daemon.read_document.Goals as goal
+
+pub loop-document-init : goal.loop-document-init
+loop-document-init g c = ([], c.new-document.ensures c.args.path.now, exchanges_none c.args.self.now)
+
+pub returns-in_err-answer-clause-died : goal.returns-in_err-answer-clause-died
+returns-in_err-answer-clause-died g c =
+    let p = err_from_is_err_and c.from_residual-in_err-answer.result c.from_residual-in_err-answer.ensures.1 in
+    rw (p.1, p.2) (λ e. dies_within _ _ _ _ c.loop-document.document c.loop-document.invariant.0 _ c.loop-document.invariant.1 c.in_ok-call.ensures
+    c.loop-document.invariant.2 (c.in_err-answer.ensures.died (same_err _ _ e)))
+
+pub returns-in-Done-clause-read : goal.returns-in-Done-clause-read
+returns-in-Done-clause-read g c =
+    reads_done _ _ _ _ c.loop-document.document c.loop-document.invariant.0 _ _ _ c.loop-document.invariant.1 c.in_ok-call.ensures c.loop-document.invariant.2
+    c.in_ok-answer.ensures.answered
+    (rw c.in-Done.is at (c.in_ok-next.ensures.next c.args.path.now c.loop-document.invariant.0 c.loop-document.invariant.1))
+
+pub returns-in-Illegal-clause-died : goal.returns-in-Illegal-clause-died
+returns-in-Illegal-clause-died g c = λ _.
+    illegal_within _ _ _ _ c.loop-document.document c.loop-document.invariant.0 _ _ c.loop-document.invariant.1 c.in_ok-call.ensures c.loop-document.invariant.2
+    c.in_ok-answer.ensures.answered
+    (rw c.in-Illegal.is at (c.in_ok-next.ensures.next c.args.path.now c.loop-document.invariant.0 c.loop-document.invariant.1))
+
+pub loop-document-preserved-in-Ask : goal.loop-document-preserved-in-Ask
+loop-document-preserved-in-Ask g c =
+    goes_on _ _ _ _ c.loop-document.document c.in-Ask.next c.loop-document.invariant.0 _ _ c.in_ok-call.ensures c.loop-document.invariant.2
+    c.in_ok-answer.ensures.answered
+    (rw c.in-Ask.is at (c.in_ok-next.ensures.next c.args.path.now c.loop-document.invariant.0 c.loop-document.invariant.1))
+
+pub loop-document-preserved : goal.loop-document-preserved
+loop-document-preserved g c =
+    goes_on _ _ _ _ c.loop-document.document c.in-Ask.next c.loop-document.invariant.0 _ _ c.in_ok-call.ensures c.loop-document.invariant.2
+    c.in_ok-answer.ensures.answered
+    (rw c.in-Ask.is at (c.in_ok-next.ensures.next c.args.path.now c.loop-document.invariant.0 c.loop-document.invariant.1))

@@ -1,0 +1,18 @@
+use Rattle.std.proofs.Common.{ap, Err, take}
+use Rattle.ci_link.proofs.TalkLemmas.{doc_at, docs_more, so_far_none, so_far_push, so_far_dies}
+use Rattle.ci_link.proofs.daemon.Daemon.talk.Goals as goal
+
+pub loop-place-init : goal.loop-place-init
+loop-place-init g c = rw c.new-outcomes.ensures (so_far_none c.args.self.now)
+
+pub returns-in-Err-Died : goal.returns-in-Err-Died
+returns-in-Err-Died g c =
+    so_far_dies c.args.self.now c.loop-place.self c.read_document.new.self c.args.batch.now.docs c.loop-place.place c.loop-place.outcomes c.doc-item.result
+    c.loop-place.invariant (doc_at _ _ _ _ c.items-doc-items.ensures c.loop-place-test.true c.doc-item.is)
+    (c.in-Err-Died.ensures.died (ap (λ e. Err e) c.in-Err-Died.field-0-is))
+
+pub loop-place-preserved : goal.loop-place-preserved
+loop-place-preserved g c =
+    rw (c.in_ok-add-in-Ok.ensures.ok, docs_more _ _ _ _ c.items-doc-items.ensures c.loop-place-test.true c.doc-item.is)
+    (so_far_push c.args.self.now c.loop-place.self c.read_document.new.self (take c.loop-place.place c.args.batch.now.docs) c.loop-place.outcomes c.doc-item.result
+    c.in-Ok.pieces c.loop-place.invariant c.in-Ok.ensures.read)

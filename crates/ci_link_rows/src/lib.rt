@@ -1,0 +1,7 @@
+//! Tests of talks with daemons, in memory and as a process.
+#![tactic(auto)]
+
+#[cfg(test)]
+mod spawners;
+#[cfg(test)]
+mod talks;

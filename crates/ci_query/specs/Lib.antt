@@ -1,0 +1,10 @@
+pub mod Fault
+pub mod Grammar
+pub mod Held
+pub mod Near
+pub mod Opens
+pub mod Places
+pub mod Reading
+pub mod Sat
+pub mod Values
+pub mod Words

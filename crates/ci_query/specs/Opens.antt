@@ -1,0 +1,17 @@
+-- A function value that reads what stands behind an opening sign.
+use Rattle.std.specs.Prelude.{ℕ, List, Result}
+use Rattle.std.specs.declared.alloc.Global.{Global}
+use denote.Ref.{Bor, MutBor}
+use Rattle.ci_query.specs.declared.fault.QueryFault.{QueryFault}
+use Rattle.ci_query.specs.declared.restriction.Restriction.{Restriction}
+use Rattle.ci_query.specs.declared.sign.Opener.{Opener}
+use Rattle.ci_query.specs.Grammar.{opened}
+use Rattle.ci_query.specs.Reading.{Left, Reads}
+
+-- it may be called, and it reads by the rule
+pub record Opens (depth : ℕ)
+    (pre : Global → Bor (List (List ℕ)) → MutBor Left → ℕ → Opener → Type 0)
+    (post : Global → Bor (List (List ℕ)) → MutBor Left → ℕ → Opener → Result Restriction QueryFault → MutBor Left → Type 0) : Type 0 where
+  pub callable : (alloc : Global) (noise : Bor (List (List ℕ))) (old : MutBor Left) (by : Opener) → pre alloc noise old depth by
+  pub reads : (alloc : Global) (noise : Bor (List (List ℕ))) (old new : MutBor Left) (by : Opener) (r : Result Restriction QueryFault) → post alloc noise old depth by r new
+      → Reads (opened noise.now depth by old.now) r new.now

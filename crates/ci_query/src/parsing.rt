@@ -1,0 +1,75 @@
+ghost use Rattle.std.specs.Prelude.{◌≡◌};
+ghost use Rattle.ci_query.specs.Grammar as spec;
+ghost use Rattle.ci_query.specs.Reading.{Gives, Reads};
+
+use crate::grammar::Grammar;
+use crate::reader::Reader;
+use crate::sign::Opener;
+use crate::{QueryFault, Restriction};
+use ci_pieces::pieces;
+use ci_words::NoiseList;
+use std::alloc::Global;
+
+/// How many signs `(` and `!` may be open at once, which bounds the stack.
+pub const OPEN_SIGNS: usize = 64;
+
+/// The tree of a query, or the first fault in it.
+pub fn parse(alloc: Global, text: &str, noise: &NoiseList) -> Result<Restriction, QueryFault>
+    ensures { Gives (spec.parsed noise.now text.now) result }
+{
+    let pieces = pieces(alloc, text)?;
+    whole(
+        alloc,
+        noise,
+        &mut Reader::new(pieces.as_slice(), text.len()),
+    )
+}
+
+// A query, behind which the text ends.
+#[tactic(auto, unfolding(crate::specs::Grammar::whole))]
+fn whole(
+    alloc: Global,
+    noise: &NoiseList,
+    reader: &mut Reader<'_, '_>,
+) -> Result<Restriction, QueryFault>
+    ensures { Reads (spec.whole noise.now reader.old) result reader.new }
+{
+    let grammar = Grammar {
+        alloc,
+        noise,
+        depth: OPEN_SIGNS,
+        opened,
+    };
+    let tree = grammar.query(reader)?;
+    match reader.peek() {
+        None => Ok(tree),
+        Some(_) => Err(reader.refuse()),
+    }
+}
+
+// An opening sign and what stands behind it, where `depth` signs more may be open.
+fn opened(
+    alloc: Global,
+    noise: &NoiseList,
+    reader: &mut Reader<'_, '_>,
+    depth: usize,
+    by: Opener,
+) -> Result<Restriction, QueryFault>
+    ensures { Reads (spec.opened noise.now depth by reader.old) result reader.new }
+{
+    if depth == 0 {
+        let at = reader.place();
+        return Err(QueryFault::TooDeep { at });
+    }
+    reader.step();
+    let grammar = Grammar {
+        alloc,
+        noise,
+        depth: depth - 1,
+        opened,
+    };
+    match by {
+        Opener::Parenthesis => grammar.query(reader),
+        Opener::Not => grammar.negation(reader),
+    }
+}

@@ -1,0 +1,9 @@
+//! Tests of the reader of queries, and of what satisfies them: worked rows as tables.
+#![tactic(auto)]
+
+#[cfg(test)]
+mod query;
+#[cfg(test)]
+mod satisfy;
+#[cfg(test)]
+mod show;

@@ -1,0 +1,9 @@
+//! Which documents satisfy a restriction.
+#![tactic(auto)]
+
+mod near;
+mod sat;
+mod value;
+mod word;
+
+pub use sat::satisfies;
