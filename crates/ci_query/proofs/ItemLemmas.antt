@@ -1,7 +1,7 @@
 -- Items, and the words that they have.
 use Rattle.std.proofs.Common.{◌≡◌, ℕ, suc, ◌+◌, ◌<◌, ◌≤◌, not, List, [], ◌∷◌, ◌++◌, drop, length, take, get_or, Option, Some, None, cond, nat_lt, unwrap_or, refl, sym, ap, ◌∙◌, append-nil, arith, length-append}
 use Rattle.std.specs.List.{position_or_len}
-use Rattle.std.proofs.lemmas.Bool.{lt-ltb, le-ltb}
+use Rattle.std.proofs.lemmas.Bool.{le-ltb}
 use Rattle.std.proofs.lemmas.Bool.Decides.{nat_tests}
 use Rattle.std.proofs.lemmas.List.{length-take-le}
 use Rattle.std.proofs.lemmas.List.Sums.{prefix_len-le-length}
@@ -30,10 +30,6 @@ take-items_of pieces n is =
 -- the next item decides whether there are too many words
 too_long-next : (read i : ℕ) (items : List Cut) (item : Cut) → i < length items → item ≡ get_or items i item → too_long read (drop i items) ≡ too_long read (item ∷ drop (suc i) items)
 too_long-next read i items item within is = ap (too_long read) (drop-cons items i item within ∙ ap (λ x. x ∷ drop (suc i) items) (sym is))
-
-pub too_long-more : (read i n : ℕ) (items : List Cut) (item : Cut) → i < length items → item ≡ get_or items i item → n ≡ length (item_words item) → 1024 < read + n → too_long read (drop i items) ≡ Some item.at
-too_long-more read i n items item within is count long =
-    too_long-next read i items item within is ∙ rw (← count) (rw (lt-ltb 1024 (read + n) long) refl)
 
 pub too_long-few : (read i n : ℕ) (items : List Cut) (item : Cut) → i < length items → item ≡ get_or items i item → n ≡ length (item_words item) → read + n ≤ 1024 → too_long read (drop i items) ≡ too_long (read + n) (drop (suc i) items)
 too_long-few read i n items item within is count few =

@@ -6,8 +6,9 @@ use Rattle.ci_query.specs.declared.fault.QueryFault.{QueryFault}
 use Rattle.ci_query.specs.declared.fault.QueryFault.TheVariants.{TooDeep}
 use Rattle.ci_query.specs.declared.restriction.Restriction.{Restriction}
 use Rattle.ci_query.specs.declared.sign.Opener.{Opener}
-use Rattle.ci_query.specs.Grammar.{behind, opened, parsed, start, tree_of, whole}
-use Rattle.ci_query.specs.Reading.{Gives, Left, Reads, next, place}
+use Rattle.ci_query.specs.Grammar.{behind, opened, parsed, tree_of, whole}
+use Rattle.ci_query.specs.Left.{Left, next, place, start}
+use Rattle.ci_query.specs.Reading.{Gives, Reads}
 
 pub opened-none : (noise : List (List ℕ)) (depth : ℕ) (by : Opener) (l : Left) → depth ≡ 0 → opened noise depth by l ≡ Err (TooDeep (place l))
 unfolding opened

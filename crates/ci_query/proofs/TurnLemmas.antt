@@ -1,17 +1,14 @@
 -- A rule that is repeated behind a sign.
-use Rattle.std.proofs.Common.{◌≡◌, ℕ, suc, ◌+◌, ◌-◌, ◌<◌, ◌≤◌, true, false, List, [], ◌∷◌, ◌++◌, Ok, Err, refl, sym, ap, ◌∙◌, arith, append-nil, append_assoc, if◌then◌else◌}
+use Rattle.std.proofs.Common.{◌≡◌, ℕ, suc, ◌+◌, ◌-◌, ◌<◌, true, false, List, [], ◌∷◌, ◌++◌, Ok, Err, refl, sym, ap, ◌∙◌, arith, append-nil, append_assoc, if◌then◌else◌}
 use Rattle.ci_query.specs.declared.fault.QueryFault.{QueryFault}
 use Rattle.ci_query.specs.declared.sign.Sign.{Sign}
-use Rattle.ci_query.specs.Reading.{Left, Outcome, Rule, and_then, eat, pure, turns, ◌>>=◌}
+use Rattle.ci_query.specs.Left.{Left}
+use Rattle.ci_query.specs.Reading.{Outcome, Rule, and_then, eat, pure, turns, ◌>>=◌}
 
 -- an outcome behind what was read before
 abbrev pub prepended : {A : Type 0} → List A → Outcome (List A) → Outcome (List A)
 prepended before (Ok read) = Ok (before ++ read.0, read.1)
 prepended before (Err fault) = Err fault
-
-pub prepended-nil : {A : Type 0} (o : Outcome (List A)) → o ≡ prepended [] o
-prepended-nil (Ok read) = refl
-prepended-nil (Err fault) = refl
 
 prepended-more : {A : Type 0} (before : List A) (x : A) (o : Outcome (List A)) → prepended before (and_then o (λ others. pure (x ∷ others))) ≡ prepended (before ++ x ∷ []) o
 prepended-more before x (Ok read) = ap (λ xs. Ok (xs, read.1)) (sym (append_assoc before (x ∷ []) read.0))
@@ -47,8 +44,3 @@ module _ {A : Type 0} (s : Sign) (rule : Rule A) (whole : Outcome (List A)) (bef
       ∙ ap (λ o. prepended before (and_then o (λ more. if more then (rule >>= (λ found. turns s rule (n - (at + 1)) >>= (λ others. pure (found ∷ others)))) else pure []))) some
       ∙ ap (λ o. prepended before (and_then o (λ found. turns s rule (n - (at + 1)) >>= (λ others. pure (found ∷ others))))) read
       ∙ prepended-more before x (turns s rule (n - (at + 1)) l'')
-
-  pub turns-over : n ≤ at → SoFar → whole ≡ Ok (before, l)
-  turns-over over so_far =
-      let none : n - at ≡ 0 = omega arith in
-      so_far ∙ ap (λ k. prepended before (turns s rule k l)) none ∙ ap (λ xs. Ok (xs, l)) (append-nil before)

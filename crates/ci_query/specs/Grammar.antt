@@ -9,43 +9,24 @@
 --   value = quoted | bare
 --
 -- A rule that meets a fault ends there, so that of a whole query the first fault is met.
-use Rattle.std.specs.Prelude.{ℕ, zero, suc, ◌==◌, List, [], ◌∷◌, length, Option, Some, None, Result, Ok, Err, if◌then◌else◌}
+use Rattle.std.specs.Prelude.{ℕ, zero, suc, ◌==◌, List, Option, Some, None, Result, Ok, Err, if◌then◌else◌}
 use Rattle.ci_base.specs.declared.numbers.PropNo.{PropNo}
 use Rattle.ci_pieces.specs.declared.piece.PieceKind.{PieceKind}
 use Rattle.ci_pieces.specs.declared.piece.PieceKind.TheVariants as kind
 use Rattle.ci_pieces.specs.Cut.{Cut}
-use Rattle.ci_pieces.specs.Pieces.{pieces}
 use Rattle.ci_query.specs.declared.fault.QueryFault.{QueryFault}
 use Rattle.ci_query.specs.declared.fault.QueryFault.TheVariants.{Bad, TooDeep}
 use Rattle.ci_query.specs.declared.sign.Opener.{Opener}
 use Rattle.ci_query.specs.declared.sign.Opener.TheVariants as opener
 use Rattle.ci_query.specs.declared.sign.Sign.TheVariants as sign
-use Rattle.ci_query.specs.declared.restriction.Operands.{Operands}
-use Rattle.ci_query.specs.declared.restriction.Operands.TheVariants.{One, More}
-use Rattle.ci_query.specs.declared.restriction.Restriction.{Restriction, Content, Phrase}
+use Rattle.ci_query.specs.declared.restriction.Restriction.{Restriction}
 use Rattle.ci_query.specs.declared.restriction.Restriction.TheVariants as restriction
-use Rattle.ci_query.specs.Reading.{Left, Outcome, Rule, ◌>>=◌, ◌>>◌, expect, here, next, peek, piece, place, pure, refuse, repeated, sees, settle}
+use Rattle.ci_query.specs.Joined.{contents, joined, operands, property_in}
+use Rattle.ci_query.specs.Left.{next, place, start}
+use Rattle.ci_query.specs.Reading.{Outcome, Rule, ◌>>=◌, ◌>>◌, expect, here, peek, piece, pure, refuse, repeated, sees, settle}
+use Rattle.ci_query.specs.Tree.{most_open}
 use Rattle.ci_query.specs.Values.{compared, patterned, worded}
 use Rattle.ci_query.specs.Words.{items, restriction_of}
-
--- the property of the document's text
-abbrev pub contents : PropNo
-contents = record { 0 = 1 }
-
--- one operand stands for itself; more are joined, in order
-abbrev pub operands : Restriction → List Restriction → Operands
-operands first [] = One first
-operands first (second ∷ more) = More first (operands second more)
-
-abbrev pub joined : (Operands → Restriction) → Restriction → List Restriction → Restriction
-joined join first [] = first
-joined join first (second ∷ more) = join (operands first (second ∷ more))
-
--- the property of words or of a phrase; nothing else has one here
-unfoldable pub property_in : Restriction → Option PropNo
-property_in (Content property word prefix) = Some property
-property_in (Phrase property slots) = Some property
-property_in _ = None
 
 -- `~` joins words and phrases of one property: that of the first
 abbrev pub first_property : ℕ → Option PropNo → Result PropNo QueryFault
@@ -163,10 +144,6 @@ module _ (noise : List (List ℕ)) where
   opened zero by = λ l. Err (TooDeep (place l))
   opened (suc depth) by = λ l. behind (opened depth) by (next l)
 
--- how many signs may be open
-abbrev pub most_open : ℕ
-most_open = 64
-
 -- the text ends here
 abbrev pub end_by : Option PieceKind → Rule (Unit {0})
 end_by None = pure tt
@@ -177,9 +154,6 @@ whole noise = do
   tree ← query noise (opened noise most_open)
   peek >>= end_by
   pure tree
-
-abbrev pub start : List ℕ → Left
-start text = record { pieces = pieces text; words = 0; size = length text }
 
 abbrev pub tree_of : Outcome Restriction → Result Restriction QueryFault
 tree_of (Ok read) = Ok read.0

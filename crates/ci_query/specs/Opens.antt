@@ -6,7 +6,8 @@ use Rattle.ci_query.specs.declared.fault.QueryFault.{QueryFault}
 use Rattle.ci_query.specs.declared.restriction.Restriction.{Restriction}
 use Rattle.ci_query.specs.declared.sign.Opener.{Opener}
 use Rattle.ci_query.specs.Grammar.{opened}
-use Rattle.ci_query.specs.Reading.{Left, Reads}
+use Rattle.ci_query.specs.Left.{Left}
+use Rattle.ci_query.specs.Reading.{Reads}
 
 -- it may be called, and it reads by the rule
 pub record Opens (depth : ℕ)

@@ -1,5 +1,5 @@
--- What is left of a query to be read, and the steps that the rules of the grammar are made of.
-use Rattle.std.specs.Prelude.{◌≡◌, ◌≢◌, ℕ, zero, suc, Bool, true, false, List, [], ◌∷◌, drop, length, Option, Some, None, Result, Ok, Err, if◌then◌else◌}
+-- The steps that the rules of the grammar are made of.
+use Rattle.std.specs.Prelude.{◌≡◌, ◌≢◌, ℕ, zero, suc, Bool, true, false, List, [], ◌∷◌, length, Option, Some, Result, Ok, Err, if◌then◌else◌}
 use Rattle.std.specs.Global.{Vec}
 use Rattle.ci_pieces.specs.declared.piece.PieceKind.{PieceKind}
 use Rattle.ci_pieces.specs.declared.piece.PieceKind.TheVariants as kind
@@ -8,32 +8,7 @@ use Rattle.ci_query.specs.declared.fault.QueryFault.{QueryFault}
 use Rattle.ci_query.specs.declared.fault.QueryFault.TheVariants.{Bad, OutOfMemory}
 use Rattle.ci_query.specs.declared.sign.Sign.{Sign}
 use Rattle.ci_query.specs.declared.sign.Sign.TheVariants as sign
-
--- the pieces that are still to be read, how many words were read, and the length of the whole text
-pub record Left : Type 0 where
-  pub pieces : List Cut
-  pub words : ℕ
-  pub size : ℕ
-
--- where the next piece stands, or the text ends
-abbrev pub place_in : ℕ → List Cut → ℕ
-place_in size [] = size
-place_in size (piece ∷ more) = piece.at
-
-abbrev pub place : Left → ℕ
-place l = place_in l.size l.pieces
-
-abbrev pub first_kind : List Cut → Option PieceKind
-first_kind [] = None
-first_kind (piece ∷ more) = Some piece.kind
-
--- what comes next
-abbrev pub ahead : Left → Option PieceKind
-ahead l = first_kind l.pieces
-
--- what is left behind the next piece
-abbrev pub next : Left → Left
-next l = record l { pieces = drop 1 l.pieces }
+use Rattle.ci_query.specs.Left.{Left, ahead, next, place}
 
 -- ---- rules
 

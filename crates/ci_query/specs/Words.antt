@@ -12,7 +12,8 @@ use Rattle.ci_query.specs.declared.restriction.Restriction.{Restriction}
 use Rattle.ci_query.specs.declared.restriction.Restriction.TheVariants.{Content, Phrase}
 use Rattle.ci_query.specs.declared.slots.Slot.{Slot}
 use Rattle.ci_query.specs.declared.slots.Slot.TheVariants.{Word, Open}
-use Rattle.ci_query.specs.Reading.{Rule, place_in}
+use Rattle.ci_query.specs.Left.{place_in}
+use Rattle.ci_query.specs.Reading.{Rule}
 
 -- ---- items
 

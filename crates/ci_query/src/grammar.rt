@@ -3,6 +3,7 @@
 
 ghost use Rattle.std.specs.Prelude.{◌≡◌};
 ghost use Rattle.ci_query.specs.Grammar as spec;
+ghost use Rattle.ci_query.specs.Joined as terms;
 ghost use Rattle.ci_query.specs.Reading.{Reads, ReadsList, repeated};
 ghost use Rattle.ci_query.specs.Opens.{Opens};
 ghost use Rattle.ci_query.specs.declared.sign.Sign.TheVariants as sign;
@@ -211,9 +212,9 @@ impl<
 }
 
 // The property of words or of a phrase.
-#[tactic(auto, unfolding(crate::specs::Grammar::property_in))]
+#[tactic(auto, unfolding(crate::specs::Joined::property_in))]
 fn property_in(term: &Restriction) -> Option<PropNo>
-    ensures { result ≡ spec.property_in term.now }
+    ensures { result ≡ terms.property_in term.now }
 {
     match term {
         Restriction::Content { property, .. } => Some(*property),
@@ -229,7 +230,7 @@ fn property_in(term: &Restriction) -> Option<PropNo>
 }
 
 fn same_property(property: PropNo, at: u64, term: Restriction) -> Result<Restriction, QueryFault>
-    ensures { result ≡ spec.same_property property at term (spec.property_in term) }
+    ensures { result ≡ spec.same_property property at term (terms.property_in term) }
 {
     match property_in(&term) {
         Some(other) if other.0 == property.0 => Ok(term),

@@ -4,6 +4,7 @@
 mod fault;
 mod grammar;
 mod items;
+mod law;
 mod operands;
 mod parsing;
 mod phrase;
@@ -15,6 +16,7 @@ mod term;
 mod value;
 
 pub use fault::{QueryFault, QueryKind};
+pub use law::{query_law, repetition_law};
 pub use parsing::{OPEN_SIGNS, parse};
 pub use restriction::{Operands, Restriction};
 pub use slots::{Slot, Slots};

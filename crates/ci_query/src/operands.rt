@@ -1,6 +1,6 @@
 ghost use Rattle.std.specs.Prelude.{◌≡◌, [], ◌∷◌, ◌++◌, IfOk, List};
 ghost use Rattle.ci_query.specs.declared.restriction.Restriction.{Restriction as Node};
-ghost use Rattle.ci_query.specs.Grammar as spec;
+ghost use Rattle.ci_query.specs.Joined as spec;
 
 use crate::{Operands, Restriction};
 use sqlite_items::Boxed;

@@ -1,6 +1,11 @@
-ghost use Rattle.std.specs.Prelude.{◌≡◌};
+ghost use Rattle.std.specs.Prelude.{◌≡◌, ◌≢◌, IfErr, IfOk};
+ghost use Rattle.ci_query.specs.FirstFault.{IsFirstFault};
 ghost use Rattle.ci_query.specs.Grammar as spec;
 ghost use Rattle.ci_query.specs.Reading.{Gives, Reads};
+ghost use Rattle.ci_query.specs.Tree.{IsTree};
+ghost use Rattle.ci_query.specs.WellFormed.{IsWellFormed};
+ghost use Rattle.ci_query.specs.declared.fault.QueryFault.{QueryFault as Fault};
+ghost use Rattle.ci_query.specs.declared.restriction.Restriction.{Restriction as Node};
 
 use crate::grammar::Grammar;
 use crate::reader::Reader;
@@ -15,7 +20,15 @@ pub const OPEN_SIGNS: usize = 64;
 
 /// The tree of a query, or the first fault in it.
 pub fn parse(alloc: Global, text: &str, noise: &NoiseList) -> Result<Restriction, QueryFault>
-    ensures { Gives (spec.parsed noise.now text.now) result }
+    ensures parsed { Gives (spec.parsed noise.now text.now) result }
+    ensures ok { IfOk result (λ tree. IsTree noise.now text.now tree) }
+    ensures err { IfErr result (λ fault. fault ≢ QueryFault.OutOfMemory →
+        IsFirstFault noise.now text.now fault) }
+    ensures every_tree { (tree : Node) → IsTree noise.now text.now tree →
+        result ≢ Err QueryFault.OutOfMemory → result ≡ Ok tree }
+    ensures every_fault { (fault : Fault) → IsFirstFault noise.now text.now fault →
+        result ≢ Err QueryFault.OutOfMemory → result ≡ Err fault }
+    ensures well_formed { IfOk result IsWellFormed }
 {
     let pieces = pieces(alloc, text)?;
     whole(

@@ -1,6 +1,7 @@
 ghost use Rattle.std.specs.Prelude.{◌≡◌, ◌<◌, ◌↔◌, ◌++◌, ◌∷◌, [], List, IfOk, IfSome, IsTrue, OnOk, find, length};
 ghost use Rattle.std.specs.Option.{option_copied};
-ghost use Rattle.ci_query.specs.Reading.{Gives, place_in};
+ghost use Rattle.ci_query.specs.Left.{place_in};
+ghost use Rattle.ci_query.specs.Reading.{Gives};
 ghost use Rattle.ci_query.specs.Words as spec;
 ghost use Rattle.ci_query.specs.declared.slots.Slot.{Slot as Slot'};
 

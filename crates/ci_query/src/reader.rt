@@ -1,4 +1,5 @@
 ghost use Rattle.std.specs.Prelude.{◌≡◌, ◌≢◌, IfOk, IfErr, OnOk, length};
+ghost use Rattle.ci_query.specs.Left as left;
 ghost use Rattle.ci_query.specs.Reading as spec;
 ghost use Rattle.ci_query.specs.Grammar.{value};
 ghost use Rattle.ci_query.specs.Words.{items, words_of as read_words};
@@ -20,7 +21,7 @@ pub struct Reader<'a, 't> {
 }
 
 impl<'a, 't> Model for Reader<'a, 't> {
-    ghost use Rattle.ci_query.specs.Reading.{Left};
+    ghost use Rattle.ci_query.specs.Left.{Left};
 
     ghost Value = { Left };
 
@@ -45,7 +46,7 @@ impl<'a, 't> Reader<'a, 't> {
 
     /// What comes next.
     pub fn peek(&self) -> Option<PieceKind>
-        ensures { result ≡ spec.ahead self.now }
+        ensures { result ≡ left.ahead self.now }
     {
         match self.pieces {
             [] => None,
@@ -55,7 +56,7 @@ impl<'a, 't> Reader<'a, 't> {
 
     /// The place of what comes next.
     pub fn place(&self) -> u64
-        ensures { result ≡ spec.place self.now }
+        ensures { result ≡ left.place self.now }
     {
         match self.pieces {
             [] => self.size as u64,
@@ -65,7 +66,7 @@ impl<'a, 't> Reader<'a, 't> {
 
     /// What comes next can't stand there.
     pub fn refuse(&self) -> QueryFault
-        ensures { result ≡ QueryFault.Bad (spec.place self.now) }
+        ensures { result ≡ QueryFault.Bad (left.place self.now) }
     {
         QueryFault::Bad { at: self.place() }
     }
@@ -86,7 +87,7 @@ impl<'a, 't> Reader<'a, 't> {
 
     /// Passes over the next piece.
     pub fn step(&mut self)
-        ensures { self.new ≡ spec.next self.old }
+        ensures { self.new ≡ left.next self.old }
     {
         if let [_, rest @ ..] = self.pieces {
             self.pieces = rest;

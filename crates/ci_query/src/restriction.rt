@@ -67,11 +67,7 @@ impl Restriction {
                 property,
                 word,
                 prefix,
-            } => Ok(Restriction::Content {
-                property: *property,
-                word: word.copy(alloc)?,
-                prefix: *prefix,
-            }),
+            } => copy_content(alloc, *property, word, *prefix),
             Restriction::Phrase { property, slots } => Ok(Restriction::Phrase {
                 property: *property,
                 slots: slots.copy(alloc)?,
@@ -84,11 +80,7 @@ impl Restriction {
                 property,
                 relation,
                 value,
-            } => Ok(Restriction::Property {
-                property: *property,
-                relation: *relation,
-                value: value.copy(alloc)?,
-            }),
+            } => copy_comparison(alloc, *property, *relation, value),
             Restriction::Pattern { property, pattern } => Ok(Restriction::Pattern {
                 property: *property,
                 pattern: pattern.copy(alloc)?,
@@ -117,4 +109,36 @@ impl Operands {
             )),
         }
     }
+}
+
+fn copy_content(
+    alloc: Global,
+    property: PropNo,
+    word: &Text,
+    prefix: bool,
+) -> Result<Restriction, OutOfMemory>
+    ensures { IfOk result (λ r. r ≡ Restriction.Content property word.now prefix) }
+{
+    let word = word.copy(alloc)?;
+    Ok(Restriction::Content {
+        property,
+        word,
+        prefix,
+    })
+}
+
+fn copy_comparison(
+    alloc: Global,
+    property: PropNo,
+    relation: Relation,
+    value: &Value,
+) -> Result<Restriction, OutOfMemory>
+    ensures { IfOk result (λ r. r ≡ Restriction.Property property relation value.now) }
+{
+    let value = value.copy(alloc)?;
+    Ok(Restriction::Property {
+        property,
+        relation,
+        value,
+    })
 }

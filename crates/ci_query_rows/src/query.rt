@@ -1,15 +1,7 @@
-//! Queries, each with its tree or its first fault. A tree is shown as `show` says.
+//! Queries, each with its tree. A tree is shown as `show` says.
 
-use crate::show::shown;
-use ci_query::parse;
-use ci_words::NoiseList;
-use std::alloc::Global;
+use crate::show::read;
 use std::test::Fail;
-
-fn read(alloc: Global, text: &str) -> Result<String, Fail> {
-    let noise = NoiseList::standard(alloc)?;
-    shown(alloc, &parse(alloc, text, &noise))
-}
 
 #[test]
 fn words_give_these_trees(rt: HostRuntime) -> Result<(), Fail> {
@@ -20,6 +12,7 @@ fn words_give_these_trees(rt: HostRuntime) -> Result<(), Fail> {
         ("the king", "1:king"),
         ("king the", "1:king"),
         ("the king of the hearts in", "1:[king _ _ hearts]"),
+        ("of king, queen of", "1:[king queen]"),
         ("king \"of hearts\"", "1:[king _ hearts]"),
         ("re*", "1:re*"),
         ("the*", "1:the*"),
@@ -39,11 +32,13 @@ fn operators_bind_in_this_order(rt: HostRuntime) -> Result<(), Fail> {
     let rows = [
         ("red | blue", "|(1:red (1:blue))"),
         ("red OR blue", "|(1:red (1:blue))"),
-        ("red or blue or green", "|(1:red (1:blue (1:green)))"),
+        ("red or blue Or green", "|(1:red (1:blue (1:green)))"),
+        ("red & blue AND green", "&(1:red (1:blue (1:green)))"),
         ("red&blue|green", "|(&(1:red (1:blue)) (1:green))"),
         ("red And (blue | green)", "&(1:red (|(1:blue (1:green))))"),
         ("NOT red & blue", "&(!1:red (1:blue))"),
         ("!red ~ blue", "!~1(1:red (1:blue))"),
+        ("red & !blue | green", "|(&(1:red (!1:blue)) (1:green))"),
         ("!!red", "!!1:red"),
         ("red ~ blue near green", "~1(1:red (1:blue (1:green)))"),
         ("(red) ~ re*", "~1(1:red (1:re*))"),
@@ -73,7 +68,11 @@ fn values_give_these_trees(rt: HostRuntime) -> Result<(), Fail> {
         ("@DocTitle = \"\"", "5=''"),
         ("@DocTitle = \"Night train\"", "5='Night train'"),
         ("@DocTitle ==x", "5='=x'"),
+        ("@DocTitle = @x", "5='@x'"),
         ("#Filename *.txt | steam", "|(2#*.txt (1:steam))"),
+        ("#Filename \"\"", "2#"),
+        ("#filename \"a b?\"", "2#a b?"),
+        ("#Filename #?", "2##?"),
         ("#scope /d/e", "/d/e"),
         ("#SCOPE \"/\"", "/"),
     ];
@@ -81,96 +80,5 @@ fn values_give_these_trees(rt: HostRuntime) -> Result<(), Fail> {
         let tree = read(rt.alloc(), text)?;
         assert_eq!(rt; tree.as_str(), wanted, "{text}");
     }
-    Ok(())
-}
-
-#[test]
-fn faults_stand_at_these_places(rt: HostRuntime) -> Result<(), Fail> {
-    let rows = [
-        ("", "Bad 0"),
-        (" \t ", "Bad 3"),
-        ("(red", "Bad 4"),
-        ("red)", "Bad 3"),
-        ("red &", "Bad 5"),
-        ("red | | blue", "Bad 6"),
-        ("red (blue)", "Bad 4"),
-        ("red !blue", "Bad 4"),
-        ("red \"x", "Bad 4"),
-        ("\"\"", "Bad 0"),
-        ("red @", "Bad 4"),
-        ("@ red", "Bad 0"),
-        ("#", "Bad 0"),
-        ("@Size", "Bad 5"),
-        ("@Size =", "Bad 7"),
-        ("@Size = (", "Bad 8"),
-        ("@Size !5", "Bad 6"),
-        ("@DocTitle == x", "Bad 13"),
-        ("@Colour (", "Bad 8"),
-        ("re* red", "Bad 0"),
-        ("red re*", "Bad 4"),
-        ("the a*", "Bad 4"),
-        ("a-b*", "Bad 0"),
-        ("re**", "Bad 0"),
-        ("*", "Bad 0"),
-        ("(a1|b1) ~ (c1", "Bad 0"),
-        ("a1 ~ @DocTitle b1", "Bad 5"),
-        ("a1 ~ !b1", "Bad 5"),
-        ("#scope d", "Bad 7"),
-        ("@Colour red", "UnknownProperty 0"),
-        ("red & #Colour x", "UnknownProperty 6"),
-        ("@scope /d", "UnknownProperty 0"),
-        ("@Size fox", "WrongKind 0"),
-        ("@Contents = x", "WrongKind 0"),
-        ("#Size 5", "WrongKind 0"),
-        ("#Contents x", "WrongKind 0"),
-        ("@Size = x", "WrongKind 8"),
-        ("@Size = +5", "WrongKind 8"),
-        ("@Size = 9223372036854775808", "WrongKind 8"),
-        ("@Size = 00000000000000000012", "WrongKind 8"),
-        ("the", "OnlyNoise 0"),
-        ("red & (the of)", "OnlyNoise 7"),
-    ];
-    for (text, wanted) in rows {
-        let fault = read(rt.alloc(), text)?;
-        assert_eq!(rt; fault.as_str(), wanted, "{text}");
-    }
-    Ok(())
-}
-
-// A text, so many times.
-fn times(alloc: Global, count: usize, text: &str) -> Result<String, Fail> {
-    let mut all = String::new(alloc);
-    for _ in 0..count {
-        all.push_str(text)?;
-    }
-    Ok(all)
-}
-
-#[test]
-fn sixty_four_signs_may_be_open(rt: HostRuntime) -> Result<(), Fail> {
-    let alloc = rt.alloc();
-    for (sign, close) in [("(", ")"), ("!", "")] {
-        let mut text = times(alloc, 64, sign)?;
-        text.push_str("fox")?;
-        text.push_str(times(alloc, 64, close)?.as_str())?;
-        let tree = read(alloc, text.as_str())?;
-        assert!(rt; tree.as_str().ends_with("1:fox"));
-        text.insert(0, '!')?;
-        let fault = read(alloc, text.as_str())?;
-        assert_eq!(rt; fault.as_str(), "TooDeep 64");
-    }
-    Ok(())
-}
-
-#[test]
-fn a_query_has_1024_words(rt: HostRuntime) -> Result<(), Fail> {
-    let alloc = rt.alloc();
-    let mut text = times(alloc, 1023, "the ")?;
-    text.push_str("fox")?;
-    let tree = read(alloc, text.as_str())?;
-    assert_eq!(rt; tree.as_str(), "1:fox");
-    text.push_str(" & red")?;
-    let fault = read(alloc, text.as_str())?;
-    assert_eq!(rt; fault.as_str(), "TooLong 4098");
     Ok(())
 }

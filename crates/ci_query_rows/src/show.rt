@@ -3,12 +3,19 @@
 use ci_base::Value;
 use ci_paths::Prefix;
 use ci_props::Relation;
-use ci_query::{Operands, QueryFault, QueryKind, Restriction, Slot};
+use ci_query::{Operands, QueryFault, QueryKind, Restriction, Slot, parse};
+use ci_words::NoiseList;
 use std::alloc::Global;
 use std::test::Fail;
 
-/// The tree, or the fault with its place.
-pub(crate) fn shown(alloc: Global, read: &Result<Restriction, QueryFault>) -> Result<String, Fail> {
+/// The tree of a text, or its first fault, under the standard noise words.
+pub(crate) fn read(alloc: Global, text: &str) -> Result<String, Fail> {
+    let noise = NoiseList::standard(alloc)?;
+    shown(alloc, &parse(alloc, text, &noise))
+}
+
+// The tree, or the fault with its place.
+fn shown(alloc: Global, read: &Result<Restriction, QueryFault>) -> Result<String, Fail> {
     let mut out = String::new(alloc);
     match read {
         Ok(tree) => show(&mut out, tree)?,
@@ -43,7 +50,7 @@ fn sign(relation: Relation) -> &'static str {
 }
 
 #[cycle(show)]
-fn show(out: &mut String, tree: &Restriction) -> Result<(), Fail> {
+pub(crate) fn show(out: &mut String, tree: &Restriction) -> Result<(), Fail> {
     match tree {
         Restriction::Content {
             property,
@@ -54,9 +61,8 @@ fn show(out: &mut String, tree: &Restriction) -> Result<(), Fail> {
             write!(out, "{}:{}{star}", property.0, word.as_str())?;
         }
         Restriction::Phrase { property, slots } => {
-            write!(out, "{}:[", property.0)?;
+            write!(out, "{}:", property.0)?;
             show_slots(out, slots.items())?;
-            out.push(']')?;
         }
         Restriction::Proximity { property, terms } => {
             write!(out, "~{}", property.0)?;
@@ -68,26 +74,14 @@ fn show(out: &mut String, tree: &Restriction) -> Result<(), Fail> {
             value,
         } => {
             write!(out, "{}{}", property.0, sign(*relation))?;
-            match value {
-                Value::Int(number) => write!(out, "{number}")?,
-                Value::Str(text) => write!(out, "'{}'", text.as_str())?,
-            }
+            show_value(out, value)?;
         }
         Restriction::Pattern { property, pattern } => {
             write!(out, "{}#{}", property.0, pattern.as_str())?;
         }
-        Restriction::Scope(prefix) => match prefix {
-            Prefix::Root => out.push('/')?,
-            Prefix::At(path) => out.push_str(path.as_str())?,
-        },
-        Restriction::And(all) => {
-            out.push('&')?;
-            show_list(out, all)?;
-        }
-        Restriction::Or(any) => {
-            out.push('|')?;
-            show_list(out, any)?;
-        }
+        Restriction::Scope(prefix) => show_prefix(out, prefix)?,
+        Restriction::And(all) => show_joined(out, '&', all)?,
+        Restriction::Or(any) => show_joined(out, '|', any)?,
         Restriction::Not(one) => {
             out.push('!')?;
             show(out, one.get())?;
@@ -96,7 +90,24 @@ fn show(out: &mut String, tree: &Restriction) -> Result<(), Fail> {
     Ok(())
 }
 
+fn show_value(out: &mut String, value: &Value) -> Result<(), Fail> {
+    match value {
+        Value::Int(number) => write!(out, "{number}")?,
+        Value::Str(text) => write!(out, "'{}'", text.as_str())?,
+    }
+    Ok(())
+}
+
+fn show_prefix(out: &mut String, prefix: &Prefix) -> Result<(), Fail> {
+    match prefix {
+        Prefix::Root => out.push('/')?,
+        Prefix::At(path) => out.push_str(path.as_str())?,
+    }
+    Ok(())
+}
+
 fn show_slots(out: &mut String, slots: &[Slot]) -> Result<(), Fail> {
+    out.push('[')?;
     for (i, slot) in slots.iter().enumerate() {
         if i > 0 {
             out.push(' ')?;
@@ -106,7 +117,14 @@ fn show_slots(out: &mut String, slots: &[Slot]) -> Result<(), Fail> {
             Slot::Open => out.push('_')?,
         }
     }
+    out.push(']')?;
     Ok(())
+}
+
+#[cycle(show)]
+fn show_joined(out: &mut String, sign: char, list: &Operands) -> Result<(), Fail> {
+    out.push(sign)?;
+    show_list(out, list)
 }
 
 #[cycle(show)]

@@ -1,6 +1,6 @@
 use Rattle.std.proofs.Common.{◌≡◌, List, [], ◌∷◌, ◌++◌, vec_len}
 use Rattle.ci_query.specs.declared.restriction.Restriction.{Restriction}
-use Rattle.ci_query.specs.Grammar.{operands}
+use Rattle.ci_query.specs.Joined.{operands}
 use Rattle.ci_query.proofs.operands.list_of.Given as goal
 
 -- what was taken from the end is in `all`, in order
