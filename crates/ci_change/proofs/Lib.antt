@@ -1,4 +1,5 @@
 pub mod FilterLemmas
+pub mod FindLemmas
 pub mod GreatestLemmas
 pub mod HandedInLemmas
 pub mod LoopLemmas

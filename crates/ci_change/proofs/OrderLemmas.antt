@@ -7,13 +7,13 @@ use Rattle.std.specs.List.Sorted.{IsStrictlySortedBy}
 use Rattle.std.specs.Map.{keys_of, remove_entry}
 use Rattle.std.specs.Ordering.{nat_cmp, match_ordering}
 
-is_at-nat_cmp : (k n : ℕ) → is_at (nat_cmp k) n ≡ (n == k)
+pub is_at-nat_cmp : (k n : ℕ) → is_at (nat_cmp k) n ≡ (n == k)
 is_at-nat_cmp k n = grind (arith, nat_tests)
 
 nat_cmp-greater : (k n : ℕ) → n < k → nat_cmp k n ≡ Greater
 nat_cmp-greater k n below = grind (arith, nat_tests)
 
-apart-from_less : (n m : ℕ) → nat_cmp n m ≡ Less → (m == n) ≡ false
+pub apart-from_less : (n m : ℕ) → nat_cmp n m ≡ Less → (m == n) ≡ false
 apart-from_less n m less = grind (arith, nat_tests)
 
 module _ {X : Type 0} where

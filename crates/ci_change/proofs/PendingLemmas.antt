@@ -7,7 +7,7 @@ use Rattle.std.proofs.lemmas.List.Elements.{filter-append}
 use Rattle.std.proofs.lemmas.Slice.Eq.{bytes_eq-Decides}
 use Rattle.ci_base.specs.declared.numbers.Seq.{Seq}
 use Rattle.ci_change.specs.declared.notice.Notice.{Notice}
-use Rattle.ci_change.specs.Pending.{latest_number, served_number, is_pending, pending_of}
+use Rattle.ci_change.specs.Pending.{latest_number, served_number, is_pending, pending_of, with_number, with_path}
 use Rattle.ci_change.specs.Register.{without_number, without_served}
 use Rattle.ci_change.proofs.FilterLemmas.{filter-fused, filter-agreed, filter-all}
 use Rattle.ci_change.proofs.GreatestLemmas.{greatest_of-push, greatest_of-le, greatest_of-found}
@@ -130,6 +130,13 @@ pub pending-others : (notices : List Notice) (served : List (List ℕ × Seq)) (
 pending-others notices served path ascending =
     filter-agreed (is_pending notices served) (λ n. not (n.seq.0 == latest_number notices path)) (λ n. not (bytes_eq n.path path)) notices
     (λ k d within pending. ap not (pending-has_latest notices served path ascending k d within pending))
+
+-- the pending notices with that number are those of the path
+pub pending-of_path : (notices : List Notice) (served : List (List ℕ × Seq)) (path : List ℕ) → AllPairs (λ a b. a.seq.0 < b.seq.0) notices
+    → with_path path (pending_of notices served) ≡ with_number (latest_number notices path) (pending_of notices served)
+pending-of_path notices served path ascending =
+    filter-agreed (is_pending notices served) (λ n. bytes_eq n.path path) (λ n. n.seq.0 == latest_number notices path) notices
+    (λ k d within pending. sym (pending-has_latest notices served path ascending k d within pending))
 
 -- ---- one served number more
 

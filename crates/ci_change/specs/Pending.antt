@@ -39,6 +39,18 @@ pending_of notices served = filter (is_pending notices served) notices
 abbrev pub pending : HandedIn → List Notice
 pending handed = pending_of handed.notices handed.served
 
+-- the notices with a number
+abbrev pub with_number : ℕ → List Notice → List Notice
+with_number number notices = filter (λ n. n.seq.0 == number) notices
+
+-- the notices of a path
+abbrev pub with_path : List ℕ → List Notice → List Notice
+with_path path notices = filter (λ n. bytes_eq n.path path) notices
+
+-- notices by their numbers and kinds
+abbrev pub kinds : List Notice → List (Seq × What)
+kinds notices = map (λ n. (n.seq, n.what)) notices
+
 abbrev pub is_changed : What → Bool
 is_changed Changed = true
 is_changed Deleted = false

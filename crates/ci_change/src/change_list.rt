@@ -1,4 +1,4 @@
-ghost use Rattle.std.specs.Prelude.{◌≡◌, ◌<◌, ◌≤◌, ◌↔◌, [], All, take, IsTrue, IsOk, IfOk, OnOk, OnErr};
+ghost use Rattle.std.specs.Prelude.{◌≡◌, ◌<◌, ◌≤◌, ◌↔◌, [], All, take, option_to_list, IsTrue, IsOk, IfOk, OnOk, OnErr};
 
 use crate::past::Past;
 use crate::register::Register;
@@ -107,6 +107,14 @@ impl ChangeList {
         ensures { result ≡ record { 0 = spec.served_number self.now.served path.now } }
     {
         Seq(self.register.served_of(path))
+    }
+
+    /// The number and the kind of the path's pending notice, if it has one.
+    pub fn pending_of(&self, path: &PathText) -> Option<(Seq, What)>
+        ensures { spec.kinds (spec.with_path path.now (spec.pending self.now))
+            ≡ option_to_list result }
+    {
+        self.register.pending_of(path)
     }
 
     /// A copy of the pending notices, in byte order of their paths.

@@ -1,8 +1,10 @@
-ghost use Rattle.std.specs.Prelude.{◌≡◌, ◌<◌, [], All, filter, take, IsTrue, IsOk, IfOk, OnOk, OnErr};
+ghost use Rattle.std.specs.Prelude.{◌≡◌, ◌<◌, [], All, filter, take, option_to_list, IsTrue, IsOk, IfOk, OnOk, OnErr};
 
 use crate::batch::is_free;
 use crate::order::{Entry, Order, renew, retire};
-use crate::rows::{Numbers, Rows, numbers_of, path_at, place_of, put_numbers, served_of};
+use crate::rows::{
+    Numbers, Rows, latest_of, numbers_of, path_at, place_of, put_numbers, served_of,
+};
 use crate::{Batch, Docs, Notice, What};
 use ci_base::{OutOfMemory, PathText, Seq};
 use indexmap::IndexMap;
@@ -32,7 +34,7 @@ impl Register {
     ghost use Rattle.ci_change.specs.HandedIn.{notice_of};
     ghost use Rattle.ci_change.specs.Register.{Notes, Serves, Stays};
     ghost use Rattle.ci_change.specs.Rows.{has_row, numbers_at};
-    ghost use Rattle.ci_change.specs.Pending.{docs_of, is_free};
+    ghost use Rattle.ci_change.specs.Pending.{docs_of, is_free, kinds, with_number};
 
     pub fn new(alloc: Global) -> Register
         ensures { result ≡ record { rows = []; pending = [] } }
@@ -84,6 +86,18 @@ impl Register {
         ensures { result ≡ (numbers_at self.now.rows path.now).served }
     {
         served_of(&self.rows, path)
+    }
+
+    /// The number and the kind of the pending notice that has the number of the path's latest one.
+    pub fn pending_of(&self, path: &PathText) -> Option<(Seq, What)>
+        ensures { let latest = (numbers_at self.now.rows path.now).latest in
+            kinds (with_number latest self.now.pending) ≡ option_to_list result }
+    {
+        let latest = latest_of(&self.rows, path);
+        match self.order.get(&latest) {
+            Some(entry) => Some((Seq(latest), entry.what)),
+            None => None,
+        }
     }
 
     /// A copy of the pending notices, in order.

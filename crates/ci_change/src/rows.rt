@@ -74,3 +74,13 @@ pub fn served_of(rows: &Rows, path: &PathText) -> u64
         None => 0,
     }
 }
+
+/// The number of a path's latest notice, or 0.
+pub fn latest_of(rows: &Rows, path: &PathText) -> u64
+    ensures { result ≡ (numbers_at rows.now.entries path.now).latest }
+{
+    match rows.get(path) {
+        Some(numbers) => numbers.latest,
+        None => 0,
+    }
+}

@@ -1,58 +1,60 @@
--- What a catalogue keeps is kept by each step.
-use Rattle.std.proofs.Common.{arith, ◌≡◌, ◌∙◌, ◌||◌, ℕ, ◌+◌, ◌≤◌, false, List, [], ◌∷◌, ◌++◌, length, drop, None, option_to_list, refl, ap, sym, subst, length-append, length-drop, append-nil}
+-- What is kept beside the journal, as one more event comes.
+use Rattle.std.proofs.Common.{arith, ◌≡◌, ◌∙◌, ℕ, ◌+◌, ◌≤◌, List, [], ◌∷◌, ◌++◌, length, drop, option_to_list, refl, ap, sym, subst, length-append, length-drop}
 use Rattle.std.specs.FinMap as map_of_keys
+use Rattle.std.proofs.lemmas.List.Elements.{All-push}
 use Rattle.std.proofs.lemmas.List.{drop-append-le, drop-drop}
+use Rattle.ci_change.specs.HandedIn.{HandedIn}
 use Rattle.ci_journal.specs.declared.event.Event.{Event}
-use Rattle.ci_journal.specs.declared.event.Happened.{Happened}
-use Rattle.ci_journal.specs.declared.event.Happened.TheVariants.{Asked}
-use Rattle.ci_journal.specs.declared.request.Request.{Request}
 use Rattle.ci_journal.specs.Bytes.{journal_bytes}
-use Rattle.ci_journal.specs.Folds.{request_in, asked, notice_in, notices, query_in, queries, opened_in, opened, unopened, is_replied}
-use Rattle.ci_journal.specs.Served.{path_cmp, Served, serve_event, served}
+use Rattle.ci_journal.specs.Completions.{Filings, begun, begun_in, file_event, filings, numbers_of}
+use Rattle.ci_journal.specs.Folds.{request_in, asked, notice_in, notices, query_in, queries, opened_in, opened, unopened, replied, replied_in}
+use Rattle.ci_journal.specs.Served.{path_cmp, served_by}
 use Rattle.ci_journal.specs.Step.{May, Run}
 use Rattle.ci_journal.specs.Step.Run.{Empty, Next}
-use Rattle.ci_journal.proofs.FoldsLemmas.{asked-push, notices-push, queries-push, opened-push, is_replied-push, served-push}
-use Rattle.ci_journal.proofs.RunLemmas.{unreplied_above}
-use Rattle.ci_core.specs.declared.documents.Standing.{Standing}
+use Rattle.ci_journal.specs.Terms.{Terms}
+use Rattle.ci_journal.proofs.FoldsLemmas.{asked-push, begun-push, filings-push, notices-push, queries-push, opened-push, replied-push}
 use Rattle.ci_core.specs.declared.settings.TheConstants.{JOURNAL_MOST}
-use Rattle.ci_core.specs.declared.waiting.Waiting.{Waiting}
 use Rattle.ci_core.specs.declared.core_fault.CoreFault.{CoreFault}
-use Rattle.ci_core.specs.declared.core_fault.CoreFault.TheVariants.{JournalFull, OutOfMemory, WriteFault}
-use Rattle.ci_core.specs.Changes.{Adds, Stays, Refuses}
-use Rattle.ci_core.specs.Core.{Core}
-use Rattle.ci_core.specs.Documents.{StandFor}
-use Rattle.ci_core.specs.Kept.{IsCatalog}
-use Rattle.ci_core.specs.Waiting.{waiting_queries}
-
-no_items : {X : Type 0} (xs : List X) → length xs ≡ 0 → xs ≡ []
-no_items [] e = refl
-no_items (x ∷ xs) e = absurd (omega arith)
-
-entries-empty : {X : Type 0} → map_of_keys.entries (map_of_keys.empty {K = List ℕ} {X = X} {R = path_cmp}) ≡ []
-entries-empty {X} = no_items _ (sym (map_of_keys.len-entries map_of_keys.empty) ∙ map_of_keys.len-empty path_cmp X)
+use Rattle.ci_core.specs.declared.core_fault.CoreFault.TheVariants.{TooManyDocuments, JournalFull, OutOfMemory, WriteFault, Ended}
+use Rattle.ci_core.specs.Changes.{Adds, LacksRoom, Stays}
+use Rattle.ci_documents.specs.Documents.{KeepsEntries, Standings, StandFor}
+use Rattle.ci_core.specs.Kept.{IsHolding, Shelf}
+use Rattle.ci_core.specs.Serving.{HasIndexable}
+use Rattle.ci_core.specs.Sheet.{Sheet}
+use Rattle.ci_core.specs.Waiting.{Marks, waiting_queries}
+use Rattle.ci_core.specs.declared.waiting.Waiting.{Waiting}
+use Rattle.ci_core.proofs.MarksLemmas.{marks_behind, marks-follow}
 
 -- an empty journal says nothing
-pub IsCatalog-empty : (core : Core) (documents : List (List ℕ × Standing)) (waiting : List Waiting) → core.events ≡ [] → core.limit ≤ JOURNAL_MOST → documents ≡ [] → waiting ≡ [] → IsCatalog core documents waiting 0 0
-IsCatalog-empty core documents waiting none small no_document no_query = record {
+pub IsHolding-empty : (terms : Terms) (sheet : Sheet) (shelf : Shelf) → sheet.events ≡ [] → sheet.limit ≤ JOURNAL_MOST → shelf.documents ≡ [] → shelf.waiting ≡ [] → shelf.marks.list ≡ [] →
+    shelf.changes.notices ≡ [] → shelf.changes.served ≡ [] → shelf.changes.out ≡ [] → shelf.requests ≡ 0 → shelf.replies ≡ 0 → shelf.noted ≡ 0 → shelf.begun ≡ 0 → IsHolding terms sheet shelf
+IsHolding-empty terms sheet shelf none small no_document no_query no_mark no_notice no_served no_out requests replies noted begun = record {
   run = rw none Empty;
-  requests_counted = rw none;
-  notices_counted = rw none;
-  waits = rw (none, no_query);
-  opened_before = rw none (omega arith);
-  stands = rw (none, no_document) (record { numbers = entries-empty; entries = entries-empty });
   within = rw none (omega arith);
   small = small;
+  indexable = rw none (λ k d within. absurd (omega (arith, within)));
+  counts = rw none (record { requests = requests; replies = replies; noted = noted; begun = begun });
+  waits = rw (none, no_query) (record { waits = refl; opened_before = omega arith });
+  marks = rw (none, no_mark) (record { counted = refl; each = λ k within. absurd (omega (arith, within)) });
+  tracks = rw none (record { notices = no_notice; served = no_served; out = no_out });
+  stands = rw (none, no_document) (λ path. map_of_keys.get-empty path_cmp path);
 }
 
--- an event that may come, and what the step that adds it makes of what is kept
-pub record Follows (old new : Core) (event : Event) (documents : List (List ℕ × Standing)) (before after : List Waiting) : Type 0 where
-  pub may : May old.events event.by event.what
-  pub events : new.events ≡ old.events ++ event ∷ []
-  pub limit : new.limit ≡ old.limit
-  pub within : journal_bytes new.events ≤ new.limit
-  pub stands : StandFor (serve_event (served old.events) event.what) documents
-  pub taken : length (option_to_list (opened_in event.what)) ≤ length (waiting_queries before)
-  pub waits : waiting_queries after ≡ drop (length (option_to_list (opened_in event.what))) (waiting_queries before) ++ option_to_list (query_in event.what)
+-- what a step that adds an event makes of what is kept
+pub record Follows (terms : Terms) (old : Sheet) (event : Event) (before after : Shelf) : Type 0 where
+  pub may : May terms old.events event.by event.what
+  pub indexable : HasIndexable event.what
+  pub requests : after.requests ≡ before.requests + length (option_to_list (request_in event.what))
+  pub replies : after.replies ≡ before.replies + length (option_to_list (replied_in event.what))
+  pub noted : after.noted ≡ before.noted + length (option_to_list (notice_in event.what))
+  pub begun : after.begun ≡ before.begun + length (option_to_list (begun_in event.what))
+  pub taken : length (option_to_list (opened_in event.what)) ≤ length (waiting_queries before.waiting)
+  pub waits : waiting_queries after.waiting ≡ drop (length (option_to_list (opened_in event.what))) (waiting_queries before.waiting) ++ option_to_list (query_in event.what)
+  pub marks : after.marks.list ≡ marks_behind before.marks.list event.what
+  pub notices : after.changes.notices ≡ before.changes.notices ++ option_to_list (notice_in event.what)
+  pub served : after.changes.served ≡ numbers_of (file_event (filings old.events) event.what).completed
+  pub out : after.changes.out ≡ (file_event (filings old.events) event.what).out
+  pub stands : StandFor (served_by terms (file_event (filings old.events) event.what).completed).documents after.documents
 
 unopened-push : (journal : List Event) (event : Event) → length (opened journal) + length (option_to_list (opened_in event.what)) ≤ length (queries journal) → unopened (journal ++ event ∷ []) ≡ drop (length (option_to_list (opened_in event.what))) (unopened journal) ++ option_to_list (query_in event.what)
 unopened-push journal event room =
@@ -63,94 +65,120 @@ unopened-push journal event room =
     ∙ drop-append-le _ (queries journal) _ room
     ∙ ap (λ qs. qs ++ option_to_list (query_in event.what)) (sym (drop-drop _ (length (opened journal)) (queries journal)))
 
-pub IsCatalog-follows : (old new : Core) (event : Event) (documents documents_after : List (List ℕ × Standing)) (waiting waiting_after : List Waiting) (requests requests_after noted noted_after : ℕ) →
-    IsCatalog old documents waiting requests noted → Follows old new event documents_after waiting waiting_after →
-    requests_after ≡ requests + length (option_to_list (request_in event.what)) → noted_after ≡ noted + length (option_to_list (notice_in event.what)) →
-    IsCatalog new documents_after waiting_after requests_after noted_after
-IsCatalog-follows old new event documents documents_after waiting waiting_after requests requests_after noted noted_after kept step more_requests more_noted =
-    let left : length (waiting_queries waiting) + length (opened old.events) ≡ length (queries old.events) =
-    omega (arith, ap length kept.waits, length-drop (length (opened old.events)) (queries old.events), kept.opened_before) in
-    record {
-      run = rw step.events (Next old.events event kept.run step.may);
-      requests_counted = rw step.events (omega (arith, kept.requests_counted, more_requests, ap length (asked-push old.events event), length-append (asked old.events) (option_to_list (request_in event.what))));
-      notices_counted = rw step.events (omega (arith, kept.notices_counted, more_noted, ap length (notices-push old.events event), length-append (notices old.events) (option_to_list (notice_in event.what))));
-      waits = rw step.events (step.waits ∙ ap (λ qs. drop (length (option_to_list (opened_in event.what))) qs ++ option_to_list (query_in event.what)) kept.waits
-          ∙ sym (unopened-push old.events event (omega (arith, step.taken, left))));
-      opened_before = rw step.events (omega (
-        arith,
-        left,
-        step.taken,
-        ap length (opened-push old.events event),
-        length-append (opened old.events) (option_to_list (opened_in event.what)),
-        ap length (queries-push old.events event),
-        length-append (queries old.events) (option_to_list (query_in event.what)),
-      ));
-      stands = rw (step.events, served-push old.events event) step.stands;
-      within = step.within;
-      small = rw step.limit kept.small;
-    }
+module _ (terms : Terms) (old : Sheet) (event : Event) (before after : Shelf) (kept : IsHolding terms old before) (step : Follows terms old event before after) where
+  left : length (waiting_queries before.waiting) + length (opened old.events) ≡ length (queries old.events)
+  left = omega (arith, ap length kept.waits.waits, length-drop (length (opened old.events)) (queries old.events), kept.waits.opened_before)
+
+  opened_before : length (opened (old.events ++ event ∷ [])) ≤ length (queries (old.events ++ event ∷ []))
+  opened_before = omega (
+    arith,
+    left,
+    step.taken,
+    ap length (opened-push old.events event),
+    length-append (opened old.events) (option_to_list (opened_in event.what)),
+    ap length (queries-push old.events event),
+    length-append (queries old.events) (option_to_list (query_in event.what)),
+  )
+
+  waits_after : waiting_queries after.waiting ≡ unopened (old.events ++ event ∷ [])
+  waits_after = step.waits ∙ ap (λ qs. drop (length (option_to_list (opened_in event.what))) qs ++ option_to_list (query_in event.what)) kept.waits.waits
+      ∙ sym (unopened-push old.events event (omega (arith, step.taken, left)))
+
+  -- the longer journal and what is kept beside it
+  pub IsHolding-follows : (new : Sheet) → new.events ≡ old.events ++ event ∷ [] → new.limit ≡ old.limit → journal_bytes new.events ≤ new.limit → IsHolding terms new after
+  IsHolding-follows new events limit within = record {
+    run = rw events (Next old.events event kept.run step.may);
+    within = within;
+    small = rw limit kept.small;
+    indexable = rw events (All-push (λ (e : Event). HasIndexable e.what) old.events event kept.indexable step.indexable);
+    counts = rw events (record {
+      requests = omega (arith, kept.counts.requests, step.requests, ap length (asked-push old.events event), length-append (asked old.events) (option_to_list (request_in event.what)));
+      replies = omega (arith, kept.counts.replies, step.replies, ap length (replied-push old.events event), length-append (replied old.events) (option_to_list (replied_in event.what)));
+      noted = omega (arith, kept.counts.noted, step.noted, ap length (notices-push old.events event), length-append (notices old.events) (option_to_list (notice_in event.what)));
+      begun = omega (arith, kept.counts.begun, step.begun, ap length (begun-push old.events event), length-append (begun old.events) (option_to_list (begun_in event.what)));
+    });
+    waits = rw events (record { waits = waits_after; opened_before = opened_before });
+    marks = rw (events, step.marks) (marks-follow terms old.events kept.run before.marks.list kept.marks event.by event.what step.may);
+    tracks = rw events (record {
+      notices = step.notices ∙ ap (λ ns. ns ++ option_to_list (notice_in event.what)) kept.tracks.notices ∙ sym (notices-push old.events event);
+      served = step.served ∙ ap (λ (f : Filings). numbers_of f.completed) (sym (filings-push old.events event));
+      out = step.out ∙ ap (λ (f : Filings). f.out) (sym (filings-push old.events event));
+    });
+    stands = rw events (subst (λ (f : Filings). StandFor (served_by terms f.completed).documents after.documents) (sym (filings-push old.events event)) step.stands);
+  }
 
 -- a step that made room, and then added its event
-pub Follows-prepared : (old ready new : Core) (event : Event) (documents : List (List ℕ × Standing)) (before after : List Waiting) → Stays old ready → Adds ready new event → May old.events event.by event.what →
-    StandFor (serve_event (served old.events) event.what) documents → length (option_to_list (opened_in event.what)) ≤ length (waiting_queries before) →
-    waiting_queries after ≡ drop (length (option_to_list (opened_in event.what))) (waiting_queries before) ++ option_to_list (query_in event.what) → Follows old new event documents before after
-Follows-prepared old ready new event documents before after stays adds may stands taken waits = record {
-  may = may;
-  events = adds.events ∙ ap (λ es. es ++ event ∷ []) stays.events;
-  limit = adds.limit ∙ stays.limit;
-  within = adds.within;
-  stands = stands;
-  taken = taken;
-  waits = waits;
+pub IsHolding-adds : (terms : Terms) (old ready new : Sheet) (event : Event) (before after : Shelf) → IsHolding terms old before → Stays old ready → Adds ready new event → Follows terms old event before after → IsHolding terms new after
+IsHolding-adds terms old ready new event before after kept stays adds step =
+    IsHolding-follows terms old event before after kept step new (adds.events ∙ ap (λ es. es ++ event ∷ []) stays.events) (adds.limit ∙ stays.limit) adds.within
+
+-- what is kept goes by the events and the bound alone
+pub IsHolding-moved : (terms : Terms) (old new : Sheet) (shelf : Shelf) → IsHolding terms old shelf → new.events ≡ old.events → new.limit ≡ old.limit → IsHolding terms new shelf
+IsHolding-moved terms old new shelf kept events limit = record {
+  run = subst (Run terms) (sym events) kept.run;
+  within = rw (events, limit) kept.within;
+  small = rw limit kept.small;
+  indexable = rw events kept.indexable;
+  counts = rw events kept.counts;
+  waits = rw events kept.waits;
+  marks = rw events kept.marks;
+  tracks = rw events kept.tracks;
+  stands = rw events kept.stands;
 }
 
-pub IsCatalog-stays : (old new : Core) (documents : List (List ℕ × Standing)) (waiting : List Waiting) (requests noted : ℕ) → IsCatalog old documents waiting requests noted → Stays old new → IsCatalog new documents waiting requests noted
-IsCatalog-stays old new documents waiting requests noted kept stays =
-    let same = sym stays.events in
+-- a step that was refused before it changed anything
+pub IsHolding-stays : (terms : Terms) (old new : Sheet) (shelf : Shelf) → IsHolding terms old shelf → Stays old new → IsHolding terms new shelf
+IsHolding-stays terms old new shelf kept stays = IsHolding-moved terms old new shelf kept stays.events stays.limit
+
+-- room that was made for an entry changes nothing that is kept
+pub IsHolding-placed : (terms : Terms) (old new : Sheet) (shelf : Shelf) (documents : Standings) → IsHolding terms old shelf → Stays old new → KeepsEntries shelf.documents documents → IsHolding terms new (record shelf { documents = documents })
+IsHolding-placed terms old new shelf documents kept stays keeps =
+    let same = IsHolding-stays terms old new shelf kept stays in
     record {
-      run = subst Run same kept.run;
-      requests_counted = kept.requests_counted ∙ ap (λ es. length (asked es)) same;
-      notices_counted = kept.notices_counted ∙ ap (λ es. length (notices es)) same;
-      waits = kept.waits ∙ ap unopened same;
-      opened_before = rw stays.events kept.opened_before;
-      stands = rw stays.events kept.stands;
-      within = rw (stays.events, stays.limit) kept.within;
-      small = rw stays.limit kept.small;
+      run = same.run;
+      within = same.within;
+      small = same.small;
+      indexable = same.indexable;
+      counts = record { requests = same.counts.requests; replies = same.counts.replies; noted = same.counts.noted; begun = same.counts.begun };
+      waits = same.waits;
+      marks = same.marks;
+      tracks = same.tracks;
+      stands = λ path. same.stands path ∙ sym (keeps.entries path);
     }
 
--- what happened changes nothing that is kept: no request is asked, no notice noted, no query opened, nothing served
-pub record IsReply (what : Happened) : Type 0 where
-  pub no_request : request_in what ≡ None
-  pub no_notice : notice_in what ≡ None
-  pub no_query : query_in what ≡ None
-  pub no_opening : opened_in what ≡ None
-  pub serves_nothing : (served : Served) → serve_event served what ≡ served
+-- a refusal to make room leaves the journal
+pub LacksRoom-stays : (old new : Sheet) (bytes : ℕ) (fault : CoreFault) → LacksRoom old new bytes fault → Stays old new
+LacksRoom-stays old new bytes TooManyDocuments none = absurd none
+LacksRoom-stays old new bytes (JournalFull used more) full = full.stays
+LacksRoom-stays old new bytes OutOfMemory starves = starves.stays
+LacksRoom-stays old new bytes WriteFault none = absurd none
+LacksRoom-stays old new bytes Ended none = absurd none
 
--- a reply that came to stand in the journal, printed or not
-pub IsCatalog-reply : (old new : Core) (event : Event) (documents : List (List ℕ × Standing)) (waiting : List Waiting) (requests noted : ℕ) → IsCatalog old documents waiting requests noted → May old.events event.by event.what → IsReply event.what →
-    new.events ≡ old.events ++ event ∷ [] → new.limit ≡ old.limit → journal_bytes new.events ≤ new.limit → IsCatalog new documents waiting requests noted
-IsCatalog-reply old new event documents waiting requests noted kept may reply events limit within =
-    IsCatalog-follows old new event documents documents waiting waiting requests requests noted noted kept
-    (record {
-      may = may;
-      events = events;
-      limit = limit;
-      within = within;
-      stands = rw (reply.serves_nothing (served old.events)) kept.stands;
-      taken = rw reply.no_opening (omega arith);
-      waits = rw (reply.no_opening, reply.no_query) (sym (append-nil _));
-    })
-    (rw reply.no_request (omega arith)) (rw reply.no_notice (omega arith))
+-- marks and queries that show the same change nothing that is kept
+pub IsHolding-shown : (terms : Terms) (sheet : Sheet) (shelf : Shelf) (waiting : List Waiting) (marks : Marks) → IsHolding terms sheet shelf → waiting ≡ shelf.waiting → marks.list ≡ shelf.marks.list
+    → IsHolding terms sheet (record shelf { waiting = waiting; marks = marks })
+IsHolding-shown terms sheet shelf waiting marks kept waits marked = record {
+  run = kept.run;
+  within = kept.within;
+  small = kept.small;
+  indexable = kept.indexable;
+  counts = record { requests = kept.counts.requests; replies = kept.counts.replies; noted = kept.counts.noted; begun = kept.counts.begun };
+  waits = rw waits (record { waits = kept.waits.waits; opened_before = kept.waits.opened_before });
+  marks = rw marked kept.marks;
+  tracks = kept.tracks;
+  stands = kept.stands;
+}
 
-pub IsCatalog-refused : (old new : Core) (event : Event) (fault : CoreFault) (documents : List (List ℕ × Standing)) (waiting : List Waiting) (requests noted : ℕ) → IsCatalog old documents waiting requests noted → May old.events event.by event.what → IsReply event.what →
-    Refuses old new event fault → IsCatalog new documents waiting requests noted
-IsCatalog-refused old new event (JournalFull used more) documents waiting requests noted kept may reply refuses = IsCatalog-stays old new documents waiting requests noted kept refuses.stays
-IsCatalog-refused old new event OutOfMemory documents waiting requests noted kept may reply refuses = IsCatalog-stays old new documents waiting requests noted kept refuses.stays
-IsCatalog-refused old new event WriteFault documents waiting requests noted kept may reply refuses =
-    IsCatalog-reply old new event documents waiting requests noted kept may reply refuses.events refuses.limit refuses.within
-
--- the request that was just asked has no reply
-pub unreplied-asked : (journal : List Event) (by id : ℕ) (request : Request) → Run journal → id ≡ length (asked journal) + 1 → is_replied (journal ++ record { by = by; what = Asked id request } ∷ []) id ≡ false
-unreplied-asked journal by id request run next =
-    is_replied-push journal (record { by = by; what = Asked id request }) id
-    ∙ ap (λ b. b || false) (unreplied_above journal run id (omega arith))
+-- a change list that stayed changes nothing that is kept
+pub IsHolding-tracked : (terms : Terms) (sheet : Sheet) (shelf : Shelf) (changes : HandedIn) → IsHolding terms sheet shelf → changes ≡ shelf.changes → IsHolding terms sheet (record shelf { changes = changes })
+IsHolding-tracked terms sheet shelf changes kept same = record {
+  run = kept.run;
+  within = kept.within;
+  small = kept.small;
+  indexable = kept.indexable;
+  counts = record { requests = kept.counts.requests; replies = kept.counts.replies; noted = kept.counts.noted; begun = kept.counts.begun };
+  waits = kept.waits;
+  marks = kept.marks;
+  tracks = rw same (record { notices = kept.tracks.notices; served = kept.tracks.served; out = kept.tracks.out });
+  stands = kept.stands;
+}

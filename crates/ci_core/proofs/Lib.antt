@@ -1,4 +1,16 @@
+pub mod AskingLemmas
+pub mod BatchLemmas
+pub mod BeginningLemmas
+pub mod CatalogLemmas
 pub mod ChangesLemmas
-pub mod DocumentsLemmas
+pub mod DeletionLemmas
+pub mod HaltsLemmas
 pub mod KeptLemmas
+pub mod MarksLemmas
+pub mod NoticesLemmas
+pub mod NumbersLemmas
+pub mod OutLemmas
+pub mod RefusalLemmas
+pub mod ServedLemmas
+pub mod ServingLemmas
 pub mod StepLemmas

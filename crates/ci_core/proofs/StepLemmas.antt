@@ -1,35 +1,36 @@
 -- What a catalogue keeps, step by step.
-use Rattle.std.proofs.Common.{arith, ◌≡◌, ◌∙◌, ℕ, ◌+◌, ◌-◌, ◌≤◌, List, [], ◌∷◌, ◌++◌, length, drop, Option, Some, slice_get, option_to_list, refl, ap, sym, subst, append-nil}
+use Rattle.std.proofs.Common.{arith, ◌≡◌, ◌∙◌, ℕ, ◌+◌, ◌≤◌, true, false, List, [], ◌∷◌, ◌++◌, length, drop, nat_lt, Option, Some, None, slice_get, option_to_list, refl, ap, sym, subst, append-nil}
+use Rattle.std.proofs.lemmas.List.{map-append}
 use Rattle.std.specs.Option.{option_map}
 use Rattle.ci_base.specs.declared.numbers.Seq.{Seq}
-use Rattle.ci_words.specs.Words.{words}
-use Rattle.ci_journal.specs.declared.event.Happened.TheVariants.{Asked, Put, Opened, Answered, Said}
-use Rattle.ci_journal.specs.declared.notice.What.{What}
-use Rattle.ci_journal.specs.declared.notice.What.TheVariants.{Changed}
+use Rattle.ci_change.specs.declared.notice.What.{What}
+use Rattle.ci_change.specs.declared.notice.What.TheVariants.{Changed}
+use Rattle.ci_change.specs.HandedIn.{HandedIn, with_notice, with_served, notice_of}
+use Rattle.ci_change.specs.Pending.{served_number}
+use Rattle.ci_chunk.specs.declared.piece.Piece.{Piece}
+use Rattle.ci_entry.specs.Entry.{entry_of}
+use Rattle.ci_keys.specs.Entry.{EntryLists}
+use Rattle.ci_journal.specs.declared.event.Happened.TheVariants.{Asked, Put, Erased, Opened, Answered, Said}
+use Rattle.ci_journal.specs.declared.outcome.Outcome.TheVariants.{Done}
 use Rattle.ci_journal.specs.declared.reply.Reply.{Reply}
 use Rattle.ci_journal.specs.declared.request.Request.{Request}
-use Rattle.std.specs.FinMap.{entries}
-use Rattle.ci_journal.specs.Folds.{asked, word_asked, opened, unopened}
-use Rattle.ci_journal.specs.Served.{Served, served, live_map}
-use Rattle.ci_journal.specs.Step.{MayPut, MayAnswer, MaySay}
-use Rattle.ci_core.specs.declared.core_fault.CoreFault.{CoreFault}
-use Rattle.ci_core.specs.declared.core_fault.CoreFault.TheVariants.{OutOfMemory}
-use Rattle.ci_core.specs.declared.documents.Standing.{Standing}
-use Rattle.ci_core.specs.declared.question.Question.{Question}
+use Rattle.ci_journal.specs.Completions.{Completion, completed, numbers_of}
+use Rattle.ci_journal.specs.Folds.{word_asked}
+use Rattle.ci_journal.specs.Served.{Served, served_by}
+use Rattle.ci_journal.specs.Step.{MayPut, MayErase, MayAnswer, MaySay}
+use Rattle.ci_journal.specs.Terms.{Terms}
+use Rattle.ci_journal.proofs.FoldsLemmas.{served_by-push}
 use Rattle.ci_core.specs.declared.waiting.Waiting.{Waiting}
-use Rattle.ci_core.specs.Changes.{Adds, Stays, Refuses, IsReady, LacksRoom, RefusesOpening, event, noted}
-use Rattle.ci_core.specs.Core.{Core}
-use Rattle.ci_core.specs.Documents.{plain_of, serve_in}
-use Rattle.ci_core.specs.Kept.{IsCatalog}
-use Rattle.ci_core.specs.Opening.{Opens}
-use Rattle.ci_core.specs.Waiting.{waiting_queries}
-use Rattle.ci_journal.proofs.FoldsLemmas.{asked-push, served-push}
-use Rattle.ci_journal.proofs.RunLemmas.{IsAsked-first}
-use Rattle.ci_core.proofs.ChangesLemmas.{Adds-prepared, Refuses-from_LacksRoom, Starves-from_IsReady}
-use Rattle.ci_core.proofs.DocumentsLemmas.{StandFor-serve}
-use Rattle.ci_core.proofs.KeptLemmas.{IsCatalog-follows, IsCatalog-refused, IsCatalog-reply, Follows-prepared}
+use Rattle.ci_core.specs.Changes.{Adds, Enters, Stays, event, noted}
+use Rattle.ci_documents.specs.Documents.{Standings, StandFor, KeepsEntries, Serves, Settles}
+use Rattle.ci_core.specs.Kept.{IsHolding, Shelf}
+use Rattle.ci_core.specs.Serving.{IsIndexable}
+use Rattle.ci_core.specs.Sheet.{Sheet}
+use Rattle.ci_core.specs.Waiting.{Marks, marked_at, waiting_queries}
+use Rattle.ci_core.proofs.KeptLemmas.{Follows, IsHolding-adds, IsHolding-follows}
+use Rattle.ci_core.proofs.ServedLemmas.{StandFor-keeps, StandFor-filtered, StandFor-erased, served_by-numbers}
 
-first_shown : (ws : List Waiting) (w : Waiting) → slice_get ws 0 ≡ Some w → slice_get (waiting_queries ws) 0 ≡ Some (w.id, w.word)
+pub first_shown : (ws : List Waiting) (w : Waiting) → slice_get ws 0 ≡ Some w → slice_get (waiting_queries ws) 0 ≡ Some (w.id, w.word)
 first_shown [] w e = absurd (cc)
 first_shown (v ∷ ws) w e = let p : v ≡ w = cc in ap (λ (x : Waiting). Some (x.id, x.word)) p
 
@@ -41,114 +42,182 @@ rest_shown : (ws : List Waiting) → waiting_queries (drop 1 ws) ≡ drop 1 (wai
 rest_shown [] = refl
 rest_shown (v ∷ ws) = refl
 
-module _ (old : Core) (documents : List (List ℕ × Standing)) (waiting : List Waiting) (requests so_far : ℕ) (kept : IsCatalog old documents waiting requests so_far) where
-  pub asked-kept : (ready new : Core) (by : ℕ) (request : Request) (word : Option (List ℕ)) (after : List Waiting) → by ≡ 0 → Stays old ready → word ≡ word_asked request →
-      waiting_queries after ≡ waiting_queries waiting ++ option_to_list (option_map (λ w. (requests + 1, w)) word) → Adds ready new (event by (Asked (requests + 1) request)) →
-      IsCatalog new documents after (requests + 1) so_far
-  asked-kept ready new by request word after foreground stays asks waits adds =
-      IsCatalog-follows old new (event by (Asked (requests + 1) request)) documents documents waiting after requests (requests + 1) so_far so_far kept
-      (Follows-prepared old ready new (event by (Asked (requests + 1) request)) documents waiting after stays adds
-      (record { foreground = foreground; next = omega (arith, kept.requests_counted) }) kept.stands (omega arith)
-      (waits ∙ ap (λ w. waiting_queries waiting ++ option_to_list (option_map (λ (w : List ℕ). (requests + 1, w)) w)) asks))
-      (omega arith) (omega arith)
+numbers-push : (cs : List Completion) (c : Completion) → numbers_of (cs ++ c ∷ []) ≡ numbers_of cs ++ (c.path, c.seq) ∷ []
+numbers-push cs c = map-append (λ (d : Completion). (d.path, d.seq)) cs (c ∷ [])
 
-  pub noted-kept : (ready new : Core) (by : ℕ) (path : List ℕ) (what : What) → by ≡ 0 → Stays old ready → Adds ready new (noted by path (so_far + 1) what) → IsCatalog new documents waiting requests (so_far + 1)
-  noted-kept ready new by path what foreground stays adds =
-      IsCatalog-follows old new (noted by path (so_far + 1) what) documents documents waiting waiting requests requests so_far (so_far + 1) kept
-      (Follows-prepared old ready new (noted by path (so_far + 1) what) documents waiting waiting stays adds
-      (record { foreground = foreground; next = omega (arith, kept.notices_counted) }) kept.stands (omega arith) (sym (append-nil _)))
-      (omega arith) (omega arith)
+module _ (terms : Terms) (old : Sheet) (shelf : Shelf) (kept : IsHolding terms old shelf) where
+  abbrev Kept : Sheet → Shelf → Type 0
+  Kept new after = IsHolding terms new after
 
-  pub put-kept : (now ready new : Core) (by : ℕ) (path key stored : List ℕ) (seq : Seq) (text : List ℕ) (entry : List (List ℕ)) (after : List (List ℕ × Standing)) → old ≡ now → MayPut now.events by (record { path = path; seq = seq; what = Changed }) → Stays old ready →
-      entry ≡ words text → key ≡ path → stored ≡ path → after ≡ serve_in documents key seq entry → Adds ready new (event by (Put stored seq text)) → IsCatalog new after waiting requests so_far
-  put-kept now ready new by path key stored seq text entry after same may stays fills key_is stored_is serves adds =
-      IsCatalog-follows old new (event by (Put path seq text)) documents after waiting waiting requests requests so_far so_far kept
-      (Follows-prepared old ready new (event by (Put path seq text)) after waiting waiting stays (subst (λ p. Adds ready new (event by (Put p seq text))) stored_is adds)
-      (subst (λ (k : Core). MayPut k.events by (record { path = path; seq = seq; what = Changed })) (sym same) may)
-      (rw (serves, fills, key_is) (StandFor-serve (served old.events) documents path seq (words text) kept.stands)) (omega arith) (sym (append-nil _)))
-      (omega arith) (omega arith)
-
-  pub opened-kept : (ready new : Core) (by : ℕ) (first : Waiting) (after : List Waiting) → Stays old ready → slice_get waiting 0 ≡ Some first → after ≡ drop 1 waiting → Adds ready new (event by (Opened first.id)) → IsCatalog new documents after requests so_far
-  opened-kept ready new by first after stays front goes adds =
-      IsCatalog-follows old new (event by (Opened first.id)) documents documents waiting after requests requests so_far so_far kept
-      (Follows-prepared old ready new (event by (Opened first.id)) documents waiting after stays adds
-      (record { word = first.word; first = ap (λ qs. slice_get qs 0) (sym kept.waits) ∙ first_shown waiting first front }) kept.stands
-      (shown_length waiting first front) (ap waiting_queries goes ∙ rest_shown waiting ∙ sym (append-nil _)))
-      (omega arith) (omega arith)
-
-  -- the first query that is kept is the first that waits
-  pub first-waits : (now : Core) (first : Waiting) → old ≡ now → slice_get waiting 0 ≡ Some first → slice_get (unopened now.events) 0 ≡ Some (first.id, first.word)
-  first-waits now first same front =
-      ap (λ (k : Core). slice_get (unopened k.events) 0) (sym same) ∙ ap (λ qs. slice_get qs 0) (sym kept.waits) ∙ first_shown waiting first front
-
-  -- a request that was asked waits behind the others, if it asks for a word
-  pub asked-waits : (now new : Core) (id : ℕ) (request : Request) (word : Option (List ℕ)) (after : List Waiting) → old ≡ now → waiting_queries after ≡ unopened new.events → word ≡ word_asked request →
-      waiting_queries after ≡ waiting_queries waiting ++ option_to_list (option_map (λ w. (id, w)) word) →
-      unopened new.events ≡ unopened now.events ++ option_to_list (option_map (λ w. (id, w)) (word_asked request))
-  asked-waits now new id request word after same waits asks grows =
-      sym waits ∙ grows ∙ ap (λ w. waiting_queries waiting ++ option_to_list (option_map (λ (w : List ℕ). (id, w)) w)) asks
-      ∙ ap (λ qs. qs ++ option_to_list (option_map (λ (w : List ℕ). (id, w)) (word_asked request))) (kept.waits ∙ ap (λ (k : Core). unopened k.events) same)
-
-  -- the first query that waits can't be opened: the journal is full, or there is no memory
-  pub opening-lacks_room : (now new : Core) (by : ℕ) (first : Waiting) (fault : CoreFault) → old ≡ now → slice_get waiting 0 ≡ Some first → LacksRoom old new 64 fault → RefusesOpening now new by fault
-  opening-lacks_room now new by first fault same front lacks = record {
-    id = first.id;
-    word = first.word;
-    first = first-waits now first same front;
-    refuses = subst (λ (k : Core). Refuses k new (event by (Opened first.id)) fault) same (Refuses-from_LacksRoom old new (event by (Opened first.id)) fault kept.small lacks);
-  }
-
-  pub opening-starves : (now ready : Core) (by : ℕ) (first : Waiting) → old ≡ now → slice_get waiting 0 ≡ Some first → IsReady old ready 64 → RefusesOpening now ready by OutOfMemory
-  opening-starves now ready by first same front room = record {
-    id = first.id;
-    word = first.word;
-    first = first-waits now first same front;
-    refuses = subst (λ (k : Core). Refuses k ready (event by (Opened first.id)) OutOfMemory) same (Starves-from_IsReady old ready 64 64 kept.small refl room);
-  }
-
-  -- what opening the first query that waits gives
-  pub opens-first : (now ready new : Core) (by : ℕ) (first : Waiting) (question : Question) → old ≡ now → Stays old ready → slice_get waiting 0 ≡ Some first → Adds ready new (event by (Opened first.id)) →
-      question.id ≡ first.id → question.word ≡ first.word → question.at ≡ length new.events → question.plain ≡ plain_of documents → Opens now new by question
-  opens-first now ready new by first question same stays front adds id_is word_is at_is plain_is =
-      let shown : slice_get (unopened old.events) 0 ≡ Some (question.id, question.word) =
-      ap (λ qs. slice_get qs 0) (sym kept.waits) ∙ first_shown waiting first front ∙ rw (id_is, word_is) in
-      let asked_first = IsAsked-first old.events kept.run (length (opened old.events)) (question.id, question.word) shown in
-      let whole : Adds old new (event by (Opened question.id)) = subst (λ n. Adds old new (event by (Opened n))) (sym id_is) (Adds-prepared old ready new (event by (Opened first.id)) stays adds) in
-      let asked_same : asked new.events ≡ asked old.events = ap asked whole.events ∙ asked-push old.events (event by (Opened question.id)) ∙ append-nil _ in
-      let map_same : live_map new.events ≡ live_map old.events = ap live_map whole.events ∙ ap (λ (s : Served). s.documents) (served-push old.events (event by (Opened question.id))) in
-      let asked_as : slice_get (asked new.events) (question.id - 1) ≡ Some asked_first.request = ap (λ rs. slice_get rs (question.id - 1)) asked_same ∙ asked_first.asked_as in
-      let plain : question.plain ≡ entries (live_map new.events) = plain_is ∙ sym kept.stands.entries ∙ ap entries (sym map_same) in
-      let opens : Opens old new by question = record {
-        adds = whole;
-        first = shown;
-        request = asked_first.request;
-        asked_as = asked_as;
-        asks = asked_first.asks;
-        at = at_is;
-        plain = plain;
+  -- a request was asked
+  pub asked-kept : (ready new : Sheet) (by : ℕ) (request : Request) (word : Option (List ℕ)) (after : List Waiting) (marks : Marks) → by ≡ 0 → Stays old ready → word ≡ word_asked request →
+      waiting_queries after ≡ waiting_queries shelf.waiting ++ option_to_list (option_map (λ w. (shelf.requests + 1, w)) word) → marks.list ≡ shelf.marks.list ++ false ∷ [] →
+      Adds ready new (event by (Asked (shelf.requests + 1) request)) → Kept new (record shelf { waiting = after; marks = marks; requests = shelf.requests + 1 })
+  asked-kept ready new by request word after marks foreground stays asks waits marked adds =
+      let after_ask : Shelf = record shelf { waiting = after; marks = marks; requests = shelf.requests + 1 } in
+      let follows : Follows terms old (event by (Asked (shelf.requests + 1) request)) shelf after_ask = record {
+        may = record { foreground = foreground; next = omega (arith, kept.counts.requests) };
+        indexable = tt;
+        requests = omega arith;
+        replies = omega arith;
+        noted = omega arith;
+        begun = omega arith;
+        taken = omega arith;
+        waits = waits ∙ ap (λ w. waiting_queries shelf.waiting ++ option_to_list (option_map (λ (w : List ℕ). (shelf.requests + 1, w)) w)) asks;
+        marks = marked;
+        notices = sym (append-nil _);
+        served = kept.tracks.served;
+        out = kept.tracks.out;
+        stands = kept.stands;
       } in
-      subst (λ (k : Core). Opens k new by question) same opens
+      IsHolding-adds terms old ready new _ shelf after_ask kept stays adds follows
 
-  pub answered-kept : (now new : Core) (by id at : ℕ) (paths : List (List ℕ)) → old ≡ now → MayAnswer now.events id at paths → Adds old new (event by (Answered id at paths)) → IsCatalog new documents waiting requests so_far
-  answered-kept now new by id at paths same may adds =
-      IsCatalog-reply old new (event by (Answered id at paths)) documents waiting requests so_far kept
-      (subst (λ (k : Core). MayAnswer k.events id at paths) (sym same) may)
-      (record { no_request = refl; no_notice = refl; no_query = refl; no_opening = refl; serves_nothing = λ served. refl }) adds.events adds.limit adds.within
+  -- a path was noted
+  pub noted-kept : (ready new : Sheet) (by : ℕ) (path : List ℕ) (what : What) (after : HandedIn) → by ≡ 0 → Stays old ready →
+      after ≡ with_notice shelf.changes (notice_of path (record { 0 = shelf.noted + 1 }) what) → Adds ready new (noted by path (shelf.noted + 1) what) → Kept new (record shelf { changes = after; noted = shelf.noted + 1 })
+  noted-kept ready new by path what after foreground stays handed adds =
+      let after_note : Shelf = record shelf { changes = after; noted = shelf.noted + 1 } in
+      let follows : Follows terms old (noted by path (shelf.noted + 1) what) shelf after_note = record {
+        may = record { foreground = foreground; next = omega (arith, kept.counts.noted) };
+        indexable = tt;
+        requests = omega arith;
+        replies = omega arith;
+        noted = omega arith;
+        begun = omega arith;
+        taken = omega arith;
+        waits = sym (append-nil _);
+        marks = refl;
+        notices = ap (λ (h : HandedIn). h.notices) handed;
+        served = ap (λ (h : HandedIn). h.served) handed ∙ kept.tracks.served;
+        out = ap (λ (h : HandedIn). h.out) handed ∙ kept.tracks.out;
+        stands = kept.stands;
+      } in
+      IsHolding-adds terms old ready new _ shelf after_note kept stays adds follows
 
-  pub unanswered-kept : (now new : Core) (by id at : ℕ) (paths : List (List ℕ)) (fault : CoreFault) → old ≡ now → MayAnswer now.events id at paths → Refuses old new (event by (Answered id at paths)) fault → IsCatalog new documents waiting requests so_far
-  unanswered-kept now new by id at paths fault same may refuses =
-      IsCatalog-refused old new (event by (Answered id at paths)) fault documents waiting requests so_far kept
-      (subst (λ (k : Core). MayAnswer k.events id at paths) (sym same) may)
-      (record { no_request = refl; no_notice = refl; no_query = refl; no_opening = refl; serves_nothing = λ served. refl }) refuses
+  -- one completion more was served
+  serves : (completion : Completion) (served : HandedIn) → served ≡ with_served shelf.changes completion.path completion.seq → served.served ≡ numbers_of (completed old.events ++ completion ∷ [])
+  serves completion served handed =
+      ap (λ (h : HandedIn). h.served) handed ∙ ap (λ ns. ns ++ (completion.path, completion.seq) ∷ []) kept.tracks.served ∙ sym (numbers-push (completed old.events) completion)
 
-  pub said-kept : (now new : Core) (by id : ℕ) (reply : Reply) → old ≡ now → MaySay now.events id → Adds old new (event by (Said id reply)) → IsCatalog new documents waiting requests so_far
-  said-kept now new by id reply same may adds =
-      IsCatalog-reply old new (event by (Said id reply)) documents waiting requests so_far kept
-      (subst (λ (k : Core). MaySay k.events id) (sym same) may)
-      (record { no_request = refl; no_notice = refl; no_query = refl; no_opening = refl; serves_nothing = λ served. refl }) adds.events adds.limit adds.within
+  -- the number that a path was served under
+  pub served_under : (path : List ℕ) → served_number shelf.changes.served path ≡ served_number (served_by terms (completed old.events)).numbers path
+  served_under path = ap (λ ns. served_number ns path) (kept.tracks.served ∙ sym (served_by-numbers terms (completed old.events)))
 
-  pub unsaid-kept : (now new : Core) (by id : ℕ) (reply : Reply) (fault : CoreFault) → old ≡ now → MaySay now.events id → Refuses old new (event by (Said id reply)) fault → IsCatalog new documents waiting requests so_far
-  unsaid-kept now new by id reply fault same may refuses =
-      IsCatalog-refused old new (event by (Said id reply)) fault documents waiting requests so_far kept
-      (subst (λ (k : Core). MaySay k.events id) (sym same) may)
-      (record { no_request = refl; no_notice = refl; no_query = refl; no_opening = refl; serves_nothing = λ served. refl }) refuses
+  -- a transcript was put
+  pub put-kept : (ready new : Sheet) (by : ℕ) (path : List ℕ) (seq served : Seq) (transcript : List Piece) (entry : EntryLists) (after : HandedIn) (mid documents : Standings) →
+      MayPut old.events by (record { path = path; seq = seq; what = Changed }) → IsIndexable (Done transcript) → Stays old ready → entry ≡ entry_of terms.noise transcript → served ≡ record { 0 = served_number shelf.changes.served path } →
+      after ≡ with_served shelf.changes path seq → KeepsEntries shelf.documents mid → Serves mid documents path (nat_lt served.0 seq.0) entry →
+      Adds ready new (event by (Put path seq transcript)) → Kept new (record shelf { documents = documents; changes = after })
+  put-kept ready new by path seq served transcript entry after mid documents may indexable stays filled served_is handed keeps serves_entry adds =
+      let completion : Completion = record { path = path; seq = seq; filtered = Some transcript } in
+      let after_put : Shelf = record shelf { documents = documents; changes = after } in
+      let number : served.0 ≡ served_number (served_by terms (completed old.events)).numbers path = ap (λ (s : Seq). s.0) served_is ∙ served_under path in
+      let follows : Follows terms old (event by (Put path seq transcript)) shelf after_put = record {
+        may = may;
+        indexable = indexable;
+        requests = omega arith;
+        replies = omega arith;
+        noted = omega arith;
+        begun = omega arith;
+        taken = omega arith;
+        waits = sym (append-nil _);
+        marks = refl;
+        notices = ap (λ (h : HandedIn). h.notices) handed ∙ sym (append-nil _);
+        served = serves completion after handed;
+        out = ap (λ (h : HandedIn). h.out) handed ∙ kept.tracks.out;
+        stands = subst (λ (s : Served). StandFor s.documents documents) (sym (served_by-push terms (completed old.events) completion))
+            (StandFor-filtered terms (served_by terms (completed old.events)) path seq transcript entry mid documents filled (StandFor-keeps _ _ mid kept.stands keeps)
+            (subst (λ n. Serves mid documents path (nat_lt n seq.0) entry) number serves_entry));
+      } in
+      IsHolding-adds terms old ready new _ shelf after_put kept stays adds follows
+
+  -- a path was erased
+  pub erased-kept : (ready new : Sheet) (by : ℕ) (path : List ℕ) (seq : Seq) (after : HandedIn) (documents : Standings) →
+      MayErase old.events path seq → nat_lt (served_number shelf.changes.served path) seq.0 ≡ true → Stays old ready →
+      after ≡ with_served shelf.changes path seq → Settles shelf.documents documents path None →
+      Adds ready new (event by (Erased path seq)) → Kept new (record shelf { documents = documents; changes = after })
+  erased-kept ready new by path seq after documents may counts stays handed settles adds =
+      let completion : Completion = record { path = path; seq = seq; filtered = None } in
+      let after_erasing : Shelf = record shelf { documents = documents; changes = after } in
+      let follows : Follows terms old (event by (Erased path seq)) shelf after_erasing = record {
+        may = may;
+        indexable = tt;
+        requests = omega arith;
+        replies = omega arith;
+        noted = omega arith;
+        begun = omega arith;
+        taken = omega arith;
+        waits = sym (append-nil _);
+        marks = refl;
+        notices = ap (λ (h : HandedIn). h.notices) handed ∙ sym (append-nil _);
+        served = serves completion after handed;
+        out = ap (λ (h : HandedIn). h.out) handed ∙ kept.tracks.out;
+        stands = subst (λ (s : Served). StandFor s.documents documents) (sym (served_by-push terms (completed old.events) completion))
+            (StandFor-erased terms (served_by terms (completed old.events)) path seq shelf.documents documents (subst (λ n. nat_lt n seq.0 ≡ true) (served_under path) counts) kept.stands settles);
+      } in
+      IsHolding-adds terms old ready new _ shelf after_erasing kept stays adds follows
+
+  -- the first query that waited was opened
+  pub opened-kept : (ready new : Sheet) (by : ℕ) (first : Waiting) (after : List Waiting) → Stays old ready → slice_get shelf.waiting 0 ≡ Some first → after ≡ drop 1 shelf.waiting →
+      Adds ready new (event by (Opened first.id)) → Kept new (record shelf { waiting = after })
+  opened-kept ready new by first after stays front goes adds =
+      let after_opening : Shelf = record shelf { waiting = after } in
+      let follows : Follows terms old (event by (Opened first.id)) shelf after_opening = record {
+        may = record { word = first.word; first = ap (λ qs. slice_get qs 0) (sym kept.waits.waits) ∙ first_shown shelf.waiting first front };
+        indexable = tt;
+        requests = omega arith;
+        replies = omega arith;
+        noted = omega arith;
+        begun = omega arith;
+        taken = shown_length shelf.waiting first front;
+        waits = ap waiting_queries goes ∙ rest_shown shelf.waiting ∙ sym (append-nil _);
+        marks = refl;
+        notices = sym (append-nil _);
+        served = kept.tracks.served;
+        out = kept.tracks.out;
+        stands = kept.stands;
+      } in
+      IsHolding-adds terms old ready new _ shelf after_opening kept stays adds follows
+
+  -- a reply stands in the journal
+  pub said-kept : (new : Sheet) (by id : ℕ) (reply : Reply) (marks : Marks) → MaySay old.events id → marks.list ≡ marked_at shelf.marks.list id → Enters old new (event by (Said id reply)) →
+      Kept new (record shelf { marks = marks; replies = shelf.replies + 1 })
+  said-kept new by id reply marks may marked enters =
+      let after_saying : Shelf = record shelf { marks = marks; replies = shelf.replies + 1 } in
+      let follows : Follows terms old (event by (Said id reply)) shelf after_saying = record {
+        may = may;
+        indexable = tt;
+        requests = omega arith;
+        replies = omega arith;
+        noted = omega arith;
+        begun = omega arith;
+        taken = omega arith;
+        waits = sym (append-nil _);
+        marks = marked;
+        notices = sym (append-nil _);
+        served = kept.tracks.served;
+        out = kept.tracks.out;
+        stands = kept.stands;
+      } in
+      IsHolding-follows terms old _ shelf after_saying kept follows new enters.events enters.limit enters.within
+
+  pub answered-kept : (new : Sheet) (by id at : ℕ) (paths : List (List ℕ)) (marks : Marks) → MayAnswer terms old.events id at paths → marks.list ≡ marked_at shelf.marks.list id → Enters old new (event by (Answered id at paths)) →
+      Kept new (record shelf { marks = marks; replies = shelf.replies + 1 })
+  answered-kept new by id at paths marks may marked enters =
+      let after_answering : Shelf = record shelf { marks = marks; replies = shelf.replies + 1 } in
+      let follows : Follows terms old (event by (Answered id at paths)) shelf after_answering = record {
+        may = may;
+        indexable = tt;
+        requests = omega arith;
+        replies = omega arith;
+        noted = omega arith;
+        begun = omega arith;
+        taken = omega arith;
+        waits = sym (append-nil _);
+        marks = marked;
+        notices = sym (append-nil _);
+        served = kept.tracks.served;
+        out = kept.tracks.out;
+        stands = kept.stands;
+      } in
+      IsHolding-follows terms old _ shelf after_answering kept follows new enters.events enters.limit enters.within

@@ -1,12 +1,15 @@
 -- What contracts see of a catalogue.
 use Rattle.std.specs.Prelude.{ℕ, List, Option}
-use Rattle.ci_journal.specs.declared.event.Event.{Event}
+use Rattle.ci_journal.specs.Terms.{Terms}
+use Rattle.ci_core.specs.declared.refusal.Refusal.{Refusal}
+use Rattle.ci_core.specs.Sheet.{Sheet}
 
--- the journal's events, how many more fit without memory, the bound on their bytes, and the sink: the bytes
--- written, where it tells them, and its count of faults
+-- its journal and sink, what it was told of noise and of the most documents, the paths that are
+-- numbered, and the
+-- first refusal, once a step was refused
 pub record Core : Type 0 where
-  pub events : List Event
-  pub spare : ℕ
-  pub limit : ℕ
-  pub written : Option (List ℕ)
-  pub faults : ℕ
+  pub sheet : Sheet
+  pub terms : Terms
+  pub most : ℕ
+  pub numbered : List (List ℕ)
+  pub refusal : Option Refusal

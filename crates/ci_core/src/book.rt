@@ -1,12 +1,11 @@
-ghost use Rattle.std.specs.Prelude.{◌≡◌, ◌≢◌, ◌≤◌, ◌+◌, ℕ, [], OnOk, IfErr};
-ghost use Rattle.ci_io.specs.Causes.{Rose};
-ghost use Rattle.ci_journal.specs.Bytes.{capped, event_bytes, journal_bytes};
+ghost use Rattle.std.specs.Prelude.{◌≡◌, ◌≢◌, ◌≤◌, ◌+◌, ℕ, [], OnOk, OnErr, IfOk, IfErr};
+ghost use Rattle.ci_journal.specs.Bytes.{event_bytes, journal_bytes};
 ghost use Rattle.ci_journal.specs.Printed.{lines_of};
-ghost use Rattle.ci_core.specs.Changes.{Adds, Stays, Refuses, LacksRoom, IsReady};
+ghost use Rattle.ci_core.specs.Changes.{Adds, Enters, Writes, CutsOff, LacksRoom, IsReady};
 ghost use Rattle.ci_core.specs.declared.settings.TheConstants.{JOURNAL_MOST};
 
 use crate::CoreFault;
-use ci_base::OutOfMemory;
+use ci_base::Text8;
 use ci_io::{Sink, put_all};
 use ci_journal::{Event, Journal};
 use std::alloc::Global;
@@ -23,12 +22,18 @@ pub struct Book<K: Sink + Drop> {
 }
 
 impl<K: Sink + Drop> Model for Book<K> {
-    ghost use Rattle.ci_core.specs.Core.{Core};
+    ghost use Rattle.ci_core.specs.Sheet.{Sheet};
     ghost use Rattle.ci_core.specs.Book.{IsBook};
 
-    ghost Value = { Core };
+    ghost Value = { Sheet };
 
-    ghost view = { λ b. record { events = b.journal.list; spare = b.journal.spare; limit = b.limit; written = K.written b.sink; faults = K.faults b.sink } };
+    ghost view = { λ b. record {
+      events = b.journal.list;
+      spare = b.journal.spare;
+      limit = b.limit;
+      written = K.written b.sink;
+      faults = K.faults b.sink;
+    } };
 
     ghost invariant = { λ b. IsBook b.journal.list b.limit b.used };
 }
@@ -53,7 +58,6 @@ impl<K: Sink + Drop> Book<K> {
     pub fn prepare(&mut self, more: u64) -> Result<(), CoreFault>
         ensures ok { OnOk result (IsReady self.old self.new more) }
         ensures refused { IfErr result (LacksRoom self.old self.new more) }
-        ensures small { self.old.limit ≤ JOURNAL_MOST }
     {
         if self.limit - self.used < more {
             return Err(CoreFault::JournalFull {
@@ -76,16 +80,28 @@ impl<K: Sink + Drop> Book<K> {
         self.journal.add(event);
     }
 
-    /// Adds an event, and prints its lines.
-    pub fn print(&mut self, alloc: Global, event: Event) -> Result<(), CoreFault>
-        ensures ok { OnOk result (Adds self.old self.new event) }
-        ensures refused { IfErr result (Refuses self.old self.new event) }
+    /// Adds an event whose lines are to be printed next, and gives them.
+    pub fn enter(&mut self, alloc: Global, event: Event) -> Result<Text8, CoreFault>
+        ensures ok { OnOk result (Enters self.old self.new event) }
+        ensures lines { IfOk result (λ text. text ≡ lines_of event.what) }
+        ensures refused { IfErr result (LacksRoom self.old self.new (event_bytes event.what)) }
     {
+        // What the type says of the bound is known once a field is looked at.
+        let _limit = &self.limit;
         let more = event.bytes();
         self.prepare(more)?;
         let lines = event.lines(alloc)?;
         self.used += more;
         self.journal.add(event);
+        Ok(lines)
+    }
+
+    /// Prints the lines of an event.
+    pub fn write(&mut self, lines: &Text8) -> Result<(), CoreFault>
+        ensures ok { OnOk result (Writes self.old self.new lines.now) }
+        ensures refused { OnErr result (CutsOff self.old self.new lines.now) }
+        ensures fault { IfErr result (λ fault. fault ≡ CoreFault.WriteFault) }
+    {
         match put_all(&mut self.sink, lines.items()) {
             Ok(()) => Ok(()),
             Err(_) => Err(CoreFault::WriteFault),

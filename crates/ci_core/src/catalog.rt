@@ -1,202 +1,136 @@
-ghost use Rattle.std.specs.Prelude.{◌≡◌, ◌≤◌, ◌+◌, ◌++◌, ℕ, [], length, option_to_list, OnOk, IfOk, IfErr, false, slice_get, Some};
-ghost use Rattle.std.specs.Option.{option_map};
-ghost use Rattle.ci_journal.specs.Folds.{asked, notices, is_replied, unopened, word_asked};
-ghost use Rattle.ci_journal.specs.Step.{MayPut, MayAnswer, MaySay, Run};
-ghost use Rattle.ci_core.specs.Changes.{Adds, Refuses, RefusesOpening, event, noted};
+ghost use Rattle.std.specs.Prelude.{◌≡◌, ◌-◌, [], None, length, map, IfOk, IfErr};
+ghost use Rattle.std.specs.FinMap.{entries};
+ghost use Rattle.std.specs.Option.{option_copied, option_map};
+ghost use Rattle.ci_change.specs.Pending.{ListsByPath};
+ghost use Rattle.ci_journal.specs.Completions.{pending};
+ghost use Rattle.ci_journal.specs.Folds.{asked, is_replied, replied};
+ghost use Rattle.ci_journal.specs.Served.{live_map};
+ghost use Rattle.ci_journal.specs.Step.{Run};
+ghost use Rattle.ci_core.specs.Fixed.{HasFixed};
+ghost use Rattle.ci_core.specs.Serving.{AllIndexable};
 
-use crate::{
-    Book, Closed, CoreFault, Documents, Entry, Question, Settings, Standing, Waiting, documents,
-    waiting,
-};
-use ci_base::{PathText, Seq, Text};
+use crate::{Closed, CoreFault, Holdings, NoCatalog, Refusal, Settings};
+use ci_base::OutOfMemory;
 use ci_io::Sink;
-use ci_journal::{
-    EVENT_BYTES, Event, Happened, Journal, Notice, Paths, Reply, Request, What, asked_bytes,
-    noted_bytes, put_bytes,
-};
-use ci_words::Words;
+use ci_journal::{Journal, Notices, Paths};
+use ci_words::NoiseList;
 use std::alloc::Global;
-use std::collections::{BTreeMap, VecDeque};
 use std::marker::Model;
 
-/// The documents, the journal of what happened to them, and the sink that replies are printed to.
+/// The documents and the journal of what happened to them. Once a step was refused, every further
+/// step answers `Ended`.
 #[derive(Drop)]
 pub struct Catalog<K: Sink + Drop> {
-    alloc: Global,
-    book: Book<K>,
-    documents: Documents,
-    waiting: VecDeque<Waiting>,
-    requests: u64,
-    noted: u64,
+    pub(crate) holdings: Holdings<K>,
+    pub(crate) refusal: Option<Refusal>,
 }
 
 impl<K: Sink + Drop> Model for Catalog<K> {
     ghost use Rattle.ci_core.specs.Core.{Core};
-    ghost use Rattle.ci_core.specs.Kept.{IsCatalog};
+    ghost use Rattle.ci_core.specs.Catalog.{IsCatalog};
 
     ghost Value = { Core };
 
-    ghost view = { λ c. c.book };
+    ghost view = { λ c. record c.holdings { refusal = c.refusal } };
 
-    ghost invariant = { λ c. IsCatalog c.book c.documents.entries c.waiting.items c.requests c.noted };
+    ghost invariant = { λ c. IsCatalog (record c.holdings { refusal = c.refusal }) };
 }
 
 impl<K: Sink + Drop> Catalog<K> {
-    ghost use Rattle.ci_core.specs.Opening.{OpensFirst};
-
     /// A catalogue without documents, whose journal is empty.
-    pub fn new(alloc: Global, sink: K, settings: &Settings) -> Catalog<K>
-        ensures events { result.events ≡ [] }
-        ensures limit { result.limit ≡ settings.now.journal }
-        ensures written { result.written ≡ K.written sink }
-        ensures faults { result.faults ≡ K.faults sink }
+    pub fn new(alloc: Global, sink: K, settings: &Settings) -> Result<Catalog<K>, NoCatalog<K>>
+        ensures events { IfOk result (λ c. c.sheet.events ≡ []) }
+        ensures numbered { IfOk result (λ c. c.numbered ≡ []) }
+        ensures unrefused { IfOk result (λ c. c.refusal ≡ None) }
+        ensures fixed { IfOk result (HasFixed (record {
+          limit = settings.now.journal;
+          most = settings.now.documents;
+          terms = record { noise = settings.now.noise };
+          written = K.written sink;
+          faults = K.faults sink;
+        })) }
+        ensures err { IfErr result (λ e. e.sink ≡ sink) }
     {
-        Catalog {
-            alloc,
-            book: Book::new(alloc, sink, settings.journal),
-            documents: BTreeMap::new(alloc),
-            waiting: VecDeque::new(alloc),
-            requests: 0,
-            noted: 0,
+        match settings.noise.copy(alloc) {
+            Ok(noise) => Ok(Catalog {
+                holdings: Holdings::new(alloc, sink, settings, noise),
+                refusal: None,
+            }),
+            Err(_) => Err(NoCatalog { sink }),
         }
     }
 
-    /// A request is asked, and gets the next number, from 1.
-    pub fn ask(&mut self, by: u32, request: Request) -> Result<u64, CoreFault>
-        requires { by ≡ 0 }
-        ensures id { IfOk result (λ id. id ≡ length (asked self.old.events) + 1) }
-        ensures unreplied { IfOk result (λ id. is_replied self.new.events id ≡ false) }
-        ensures waits { IfOk result (λ id. unopened self.new.events
-            ≡ unopened self.old.events ++ option_to_list (option_map (λ word. (id, word)) (word_asked request))) }
-        ensures ok { IfOk result (λ id. Adds self.old self.new (event by (Happened.Asked id request))) }
-        ensures refused { let id = length (asked self.old.events) + 1 in
-            IfErr result (Refuses self.old self.new (event by (Happened.Asked id request))) }
+    /// The pending notices, in byte order of their paths.
+    pub fn pending(&self) -> Result<Notices, OutOfMemory>
+        ensures { IfOk result (λ list. ListsByPath (pending self.now.sheet.events) list) }
     {
-        let id = self.requests + 1;
-        self.book.prepare(asked_bytes(&request))?;
-        let word = waiting::asked_word(self.alloc, &request)?;
-        waiting::enqueue(&mut self.waiting, id, word)?;
-        self.requests = id;
-        self.book.add(Event {
-            by,
-            what: Happened::Asked { id, request },
-        });
-        Ok(id)
+        self.holdings.pending()
     }
 
-    /// A notice of the path is noted, and gets the next number, from 1.
-    pub fn note(&mut self, by: u32, path: &PathText, what: What) -> Result<Seq, CoreFault>
-        requires { by ≡ 0 }
-        ensures seq { IfOk result (λ seq. seq.0 ≡ length (notices self.old.events) + 1) }
-        ensures ok { IfOk result (λ seq. Adds self.old self.new (noted by path.now seq.0 what)) }
-        ensures refused { let number = length (notices self.old.events) + 1 in
-            IfErr result (Refuses self.old self.new (noted by path.now number what)) }
+    /// The paths of the documents, in byte order.
+    pub fn paths(&self) -> Result<Paths, OutOfMemory>
+        ensures { IfOk result (λ paths. paths
+            ≡ map (λ d. d.0) (entries (live_map self.now.terms self.now.sheet.events))) }
     {
-        let seq = Seq(self.noted + 1);
-        self.book.prepare(noted_bytes(path))?;
-        let path = path.copy(self.alloc)?;
-        self.noted = seq.0;
-        self.book.add(Event {
-            by,
-            what: Happened::Noted {
-                notice: Notice { path, seq, what },
-            },
-        });
-        Ok(seq)
+        self.holdings.paths()
     }
 
-    /// The text is taken as the document's filtering under its latest notice.
-    pub fn put(&mut self, by: u32, path: &PathText, seq: Seq, text: Text) -> Result<(), CoreFault>
-        requires { MayPut self.old.events by (record { path = path.now; seq = seq; what = What.Changed }) }
-        ensures ok { OnOk result (Adds self.old self.new (event by (Happened.Put path.now seq text))) }
-        ensures refused { IfErr result (Refuses self.old self.new (event by (Happened.Put path.now seq text))) }
+    /// How many requests have no reply.
+    pub fn waiting(&self) -> u64
+        ensures { result
+            ≡ length (asked self.now.sheet.events) - length (replied self.now.sheet.events) }
     {
-        self.book.prepare(put_bytes(path, &text))?;
-        let entry = Entry::from(Words::of(self.alloc, text.as_str())?);
-        let key = path.copy(self.alloc)?;
-        let path = path.copy(self.alloc)?;
-        documents::serve(&mut self.documents, key, seq, entry)?;
-        self.book.add(Event {
-            by,
-            what: Happened::Put { path, seq, text },
-        });
-        Ok(())
+        self.holdings.waiting()
     }
 
-    /// Opens the first query that waits, if one does.
-    pub fn open_query(&mut self, by: u32) -> Result<Option<Question>, CoreFault>
-        ensures ok { IfOk result (OpensFirst self.old self.new by) }
-        ensures refused { IfErr result (RefusesOpening self.old self.new by) }
+    /// Whether the request was asked and has its reply.
+    pub fn replied(&self, id: u64) -> bool
+        ensures { result ≡ is_replied self.now.sheet.events id }
     {
-        let Some(first) = waiting::first_waiting(&self.waiting) else {
-            return Ok(None);
-        };
-        // The word is copied here, and the want of memory for it told behind that of the bound.
-        let id = first.id;
-        let word = first.word.copy(self.alloc);
-        self.book.prepare(EVENT_BYTES)?;
-        let word = word?;
-        let plain = documents::plain_list(self.alloc, &self.documents)?;
-        self.waiting.pop_front();
-        self.book.add(Event {
-            by,
-            what: Happened::Opened { id },
-        });
-        let at = self.book.journal().events().len() as u64;
-        Ok(Some(Question {
-            id,
-            at,
-            word,
-            plain,
-        }))
+        self.holdings.replied(id)
     }
 
-    /// The hits of a query that is open are printed.
-    pub fn answer(&mut self, by: u32, id: u64, at: u64, paths: Paths) -> Result<(), CoreFault>
-        requires { MayAnswer self.old.events id at paths }
-        ensures ok { OnOk result (Adds self.old self.new (event by (Happened.Answered id at paths))) }
-        ensures refused { IfErr result (Refuses self.old self.new (event by (Happened.Answered id at paths))) }
+    /// Why the first step that was refused was so. None where no step was.
+    pub fn fault(&self) -> Option<&CoreFault>
+        ensures { option_copied result ≡ option_map (λ r. r.fault) self.now.refusal }
     {
-        self.book.print(
-            self.alloc,
-            Event {
-                by,
-                what: Happened::Answered { id, at, paths },
-            },
-        )?;
-        Ok(())
+        match &self.refusal {
+            Some(refusal) => Some(&refusal.fault),
+            None => None,
+        }
     }
 
-    /// The reply to a request is printed.
-    pub fn say(&mut self, by: u32, id: u64, reply: Reply) -> Result<(), CoreFault>
-        requires { MaySay self.old.events id }
-        ensures ok { OnOk result (Adds self.old self.new (event by (Happened.Said id reply))) }
-        ensures refused { IfErr result (Refuses self.old self.new (event by (Happened.Said id reply))) }
+    /// The first refusal: its cause, its author, its place, and what it would have told.
+    pub fn refusal(&self) -> Option<&Refusal>
+        ensures { option_copied result ≡ self.now.refusal }
     {
-        self.book.print(
-            self.alloc,
-            Event {
-                by,
-                what: Happened::Said { id, reply },
-            },
-        )?;
-        Ok(())
+        self.refusal.as_ref()
     }
 
+    /// The journal, which is a run of steps whose transcripts can be indexed.
     pub fn journal(&self) -> &Journal
-        ensures { result.now.list ≡ self.now.events }
+        ensures events { result.now.list ≡ self.now.sheet.events }
+        ensures run { Run self.now.terms result.now.list }
+        ensures indexable { AllIndexable result.now.list }
     {
-        self.book.journal()
+        self.holdings.journal()
+    }
+
+    /// The words that are passed over.
+    pub fn noise(&self) -> &NoiseList
+        ensures { result.now ≡ self.now.terms.noise }
+    {
+        self.holdings.noise()
     }
 
     /// Hands out the journal and the sink, as they are.
     pub fn close(self) -> Closed<K>
-        ensures journal { result.journal.list ≡ self.events }
-        ensures written { K.written result.sink ≡ self.written }
-        ensures faults { K.faults result.sink ≡ self.faults }
-        ensures run { Run result.journal.list }
+        ensures journal { result.journal.list ≡ self.sheet.events }
+        ensures written { K.written result.sink ≡ self.sheet.written }
+        ensures faults { K.faults result.sink ≡ self.sheet.faults }
+        ensures run { Run self.terms result.journal.list }
     {
-        let (journal, sink) = self.book.close();
+        let (journal, sink) = self.holdings.close();
         Closed { journal, sink }
     }
 }

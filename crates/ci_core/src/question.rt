@@ -1,13 +1,13 @@
 ghost use Rattle.std.specs.Prelude.{◌≡◌, IfOk};
-ghost use Rattle.ci_core.specs.Documents.{word_hits};
+ghost use Rattle.ci_documents.specs.Documents.{word_hits};
 
-use crate::Plain;
 use ci_base::{OutOfMemory, Text};
+use ci_documents::Plain;
 use ci_journal::Paths;
 use std::alloc::Global;
 
 /// A query that was opened, with all that answering it needs.
-#[derive(Debug, Drop)]
+#[derive(Drop)]
 pub struct Question {
     /// The number of its request.
     pub id: u64,
@@ -19,7 +19,7 @@ pub struct Question {
 }
 
 impl Question {
-    /// The paths of the documents that have the word, in byte order.
+    /// The paths of the documents whose contents have the word, in byte order.
     pub fn hits(&self, alloc: Global) -> Result<Paths, OutOfMemory>
         ensures { IfOk result (λ paths. paths ≡ word_hits self.now.word self.now.plain) }
     {

@@ -1,6 +1,7 @@
 ghost use Rattle.std.specs.Prelude.{◌≡◌, ◌++◌, map, IfOk, OnOk, OnErr, option_to_list, slice_get};
 ghost use Rattle.std.specs.Option.{option_copied, option_map};
-ghost use Rattle.ci_journal.specs.Folds.{word_asked};
+ghost use Rattle.ci_journal.specs.Folds.{only_word, word_asked};
+ghost use Rattle.ci_words.specs.Words.{words};
 ghost use Rattle.ci_core.specs.Waiting.{waiting_queries};
 
 use ci_base::{OutOfMemory, Text};
@@ -21,16 +22,27 @@ pub fn asked_word(alloc: Global, request: &Request) -> Result<Option<Text>, OutO
     ensures { IfOk result (λ word. word ≡ word_asked request.now) }
 {
     match request {
+        Request::Query(text) => only_word(alloc, text),
+        Request::Changed(_) => Ok(None),
+        Request::Deleted(_) => Ok(None),
         Request::Put { .. } => Ok(None),
-        Request::Query(text) => {
-            let mut words = Words::of(alloc, text.as_str())?;
-            if words.len() == 1 {
-                Ok(words.pop())
-            } else {
-                Ok(None)
-            }
-        }
+        Request::Pending => Ok(None),
+        Request::Wait => Ok(None),
+        Request::Quit => Ok(None),
         Request::Bad => Ok(None),
+        Request::Long => Ok(None),
+    }
+}
+
+// The one word of a text, if it has one.
+fn only_word(alloc: Global, text: &Text) -> Result<Option<Text>, OutOfMemory>
+    ensures { IfOk result (λ word. word ≡ only_word (words text.now)) }
+{
+    let mut words = Words::of(alloc, text.as_str())?;
+    if words.len() == 1 {
+        Ok(words.pop())
+    } else {
+        Ok(None)
     }
 }
 

@@ -1,9 +1,9 @@
 -- Where line feeds stand in bytes that are searched in parts.
-use Rattle.std.proofs.Common.{◌≡◌, ◌≢◌, ◌==◌, ℕ, ◌+◌, ◌-◌, ◌<◌, ◌≤◌, List, Some, None, length, take, drop, get_or, arith, sym, ◌∙◌, ap, inl, inr, subst, eqb-true, lt-ltb}
+use Rattle.std.proofs.Common.{◌≡◌, ◌≢◌, ◌==◌, ℕ, ◌+◌, ◌-◌, ◌<◌, ◌≤◌, List, Some, None, length, take, drop, get_or, arith, refl, ◌++◌, sym, ◌∙◌, ap, inl, inr, subst, eqb-true, lt-ltb}
 use Rattle.std.specs.List.{position, position_or_len}
 use Rattle.std.proofs.lemmas.Bool.{cases_lt, false≢true}
 use Rattle.std.proofs.lemmas.Option.{none-some}
-use Rattle.std.proofs.lemmas.List.{get_or-take, get_or-drop, length-take, length-drop, get_or_default, take-take, drop-take}
+use Rattle.std.proofs.lemmas.List.{get_or-take, get_or-drop, length-take, length-drop, get_or_default, take-take, drop-take, take_at, drop_at}
 use Rattle.std.proofs.lemmas.List.Quantifiers.{position-Some}
 use Rattle.std.proofs.lemmas.List.Sums.{fails_before_first}
 use Rattle.ci_io.specs.Lines.{HasNoFeed, HasFeedAt}
@@ -24,6 +24,10 @@ HasNoFeed-join bytes n front back = HasNoFeed-each bytes (λ k within feed. elim
       let place : n + (k - n) ≡ k = omega arith in
       get_or-no_feed (drop n bytes) (k - n) back (omega (arith, length-drop n bytes)) (get_or-drop n bytes (k - n) 0 ∙ ap (λ i. get_or bytes i 0) place ∙ feed)
 ])
+
+pub HasNoFeed-append : (front back : List ℕ) → HasNoFeed front → HasNoFeed back → HasNoFeed (front ++ back)
+HasNoFeed-append front back none_before none_behind =
+    HasNoFeed-join (front ++ back) (length front) (subst HasNoFeed (sym (take_at front back (length front) refl)) none_before) (subst HasNoFeed (sym (drop_at front back (length front) refl)) none_behind)
 
 -- a first line feed behind a front without one
 pub HasFeedAt-behind : (bytes : List ℕ) (n place : ℕ) → HasNoFeed (take n bytes) → HasFeedAt (drop n bytes) place → HasFeedAt bytes (n + place)

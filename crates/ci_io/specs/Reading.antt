@@ -1,7 +1,9 @@
 -- What a reader of lines holds and has still to read.
-use Rattle.std.specs.Prelude.{◌≡◌, ℕ, ◌<◌, ◌≤◌, Bool, true, false, List, [], ◌∷◌, ◌++◌, Option, Some, None, ⊤, IfSome, length}
+use Rattle.std.specs.Prelude.{◌≡◌, ℕ, ◌<◌, ◌≤◌, Bool, true, false, List, [], ◌∷◌, ◌++◌, ◌⊎◌, Option, Some, None, ⊤, IfSome, length, nat_le, if◌then◌else◌}
 use Rattle.std.specs.Io.KnownBytes.{prepend_known, Keeps, Consumes, IsAtEnd}
-use Rattle.ci_io.specs.declared.line.TheConstants.{LINE_BYTES}
+use Rattle.ci_io.specs.declared.line.TheConstants.{LINE_BYTES, ENDLESS_BYTES}
+use Rattle.ci_io.specs.declared.line.Line.{Line}
+use Rattle.ci_io.specs.declared.line.Line.TheVariants.{Text, Long, End}
 use Rattle.ci_io.specs.Lines.{raw_lines, without_return, HasNoFeed, IsFirstLine}
 
 -- a reader: the bytes that it took from its source and hasn't handed out, those that the source has left
@@ -16,19 +18,29 @@ pub record Reading : Type 0 where
 abbrev pub ahead : Reading → Option (List ℕ)
 ahead r = prepend_known r.held r.left
 
--- known bytes lost their first line, which has at most LINE_BYTES bytes; the text is that line without its return
-abbrev pub TakesLine : Option (List ℕ) → Option (List ℕ) → List ℕ → Type 0
-TakesLine None new text = ⊤
-TakesLine (Some all) None text = ⊥
-TakesLine (Some all) (Some rest) text =
-    (raw : List ℕ) × (length raw ≤ LINE_BYTES) × (text ≡ without_return raw) × IsFirstLine raw all rest
+-- what is read for a line: its text without its return, unless it has over LINE_BYTES bytes
+abbrev pub line_of : List ℕ → Line
+line_of raw = if nat_le (length raw) LINE_BYTES then Text (without_return raw) else Long
 
--- known bytes lost their first line and the line feed that ended it; the text is that line without its return
-abbrev pub TakesFed : Option (List ℕ) → Option (List ℕ) → List ℕ → Type 0
-TakesFed None new text = ⊤
-TakesFed (Some all) None text = ⊥
-TakesFed (Some all) (Some rest) text =
-    (raw : List ℕ) × (text ≡ without_return raw) × HasNoFeed raw × (all ≡ raw ++ 10 ∷ rest)
+-- the text of a line has no more bytes than a text may have
+abbrev pub IsShort : Line → Type 0
+IsShort (Text text) = length text ≤ LINE_BYTES
+IsShort Long = ⊤
+IsShort End = ⊤
+
+-- known bytes lost their first line, which isn't endless, and it was read
+abbrev pub TakesLine : Option (List ℕ) → Option (List ℕ) → Line → Type 0
+TakesLine None new line = ⊤
+TakesLine (Some all) None line = ⊥
+TakesLine (Some all) (Some rest) line =
+    (raw : List ℕ) × (length raw < ENDLESS_BYTES) × (line ≡ line_of raw) × IsFirstLine raw all rest
+
+-- known bytes lost their first line and the line feed that ended it, and the line was read
+abbrev pub TakesFed : Option (List ℕ) → Option (List ℕ) → Line → Type 0
+TakesFed None new line = ⊤
+TakesFed (Some all) None line = ⊥
+TakesFed (Some all) (Some rest) line =
+    (raw : List ℕ) × (line ≡ line_of raw) × HasNoFeed raw × (all ≡ raw ++ 10 ∷ rest)
 
 -- the reader gave all that was ahead, which had no line feed
 pub record TakesAll (old new : Reading) : Type 0 where
@@ -60,14 +72,29 @@ pub record IsLastLine (held : List ℕ) (left : Option (List ℕ)) : Type 0 wher
   pub short : length held ≤ LINE_BYTES
   pub ended : IsAtEnd left
 
--- the bytes have no line feed, and are more than a line may have
-abbrev pub IsTooLong : List ℕ → Type 0
-IsTooLong bytes = (LINE_BYTES < length bytes) × HasNoFeed bytes
+-- the bytes have no line feed, and are more than a text may have
+abbrev pub IsLong : List ℕ → Type 0
+IsLong bytes = (LINE_BYTES < length bytes) × HasNoFeed bytes
 
--- known bytes begin with a line of over LINE_BYTES bytes
+-- the bytes ahead lost the beginning of a line: none, unless those lost are more than a text may have
+pub record Loses (old new : Reading) : Type 0 where
+  pub lost : List ℕ
+  pub ahead : Consumes (ahead old) (ahead new) lost
+  pub whole : HasNoFeed lost
+  pub long : (lost ≡ []) ⊎ (LINE_BYTES < length lost)
+
+-- the bytes that were taken of one line, lost or held now, have no line feed; they make the line endless, and none
+-- was taken beyond
+pub record IsEndless (old new : Reading) : Type 0 where
+  pub loses : Loses old new
+  pub whole : HasNoFeed (loses.lost ++ new.held)
+  pub endless : length (loses.lost ++ new.held) ≡ ENDLESS_BYTES
+
+-- known bytes begin with a line of ENDLESS_BYTES bytes at least
 abbrev pub BeginsTooLong : Option (List ℕ) → Type 0
 BeginsTooLong None = ⊤
-BeginsTooLong (Some all) = (raw : List ℕ) × (rest : List (List ℕ)) × (raw_lines all ≡ raw ∷ rest) × (LINE_BYTES < length raw)
+BeginsTooLong (Some all) =
+    (raw : List ℕ) × (rest : List (List ℕ)) × (raw_lines all ≡ raw ∷ rest) × (ENDLESS_BYTES ≤ length raw)
 
 -- the reader took some bytes from its source, and holds them behind those that it held
 pub record Gathers (old new : Reading) : Type 0 where

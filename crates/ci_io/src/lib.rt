@@ -4,6 +4,7 @@
 mod failed;
 mod line;
 mod line_buffer;
+mod line_end;
 mod line_reader;
 mod memory_parts;
 mod memory_sink;
@@ -18,7 +19,7 @@ mod sure_memory_sink;
 mod sure_memory_source;
 
 pub use failed::Failed;
-pub use line::{LINE_BYTES, Line};
+pub use line::{ENDLESS_BYTES, LINE_BYTES, Line};
 pub use line_reader::LineReader;
 pub use memory_sink::MemorySink;
 pub use memory_source::MemorySource;

@@ -57,12 +57,14 @@ impl LineBuffer {
         self.from += count;
     }
 
-    /// Takes bytes from the source, and holds them behind the others. It answers how many: 0 is the
-    /// source's end.
-    pub fn refill<S: Source>(&mut self, source: &mut S) -> Result<usize, Failed>
-        requires { length self.old < BUFFER_BYTES }
+    /// Takes at most so many bytes from the source, and holds them behind the others. It answers
+    /// how many it took: 0 is the source's end.
+    pub fn refill<S: Source>(&mut self, source: &mut S, most: usize) -> Result<usize, Failed>
+        requires room { length self.old < BUFFER_BYTES }
+        requires some { 0 < most }
         ensures ok { IfOk result
             (Refills self.old self.new (S.left source.old) (S.left source.new)) }
+        ensures bound { IfOk result (λ n. n ≤ most) }
         ensures err { OnErr result (self.new ≡ self.old) }
         ensures kept { OnErr result (Keeps (S.left source.old) (S.left source.new)) }
         ensures cause { HasCause (S.faults source.old) (S.faults source.new) result }
@@ -70,7 +72,7 @@ impl LineBuffer {
         let (from, to) = make_room(&mut self.bytes, self.from, self.to);
         self.from = from;
         self.to = to;
-        let count = take_behind(source, &mut self.bytes, self.to)?;
+        let count = take_behind(source, &mut self.bytes, self.to, most)?;
         self.to += count;
         Ok(count)
     }
@@ -98,15 +100,23 @@ fn make_room(bytes: &mut [u8], from: usize, to: usize) -> (usize, usize)
     (0, to - from)
 }
 
-// Takes bytes from the source into the list, from place `to` on.
-fn take_behind<S: Source>(source: &mut S, bytes: &mut [u8], to: usize) -> Result<usize, Failed>
-    requires { to < length bytes.old }
+// Takes at most so many bytes from the source into the list, from place `to` on.
+fn take_behind<S: Source>(
+    source: &mut S,
+    bytes: &mut [u8],
+    to: usize,
+    most: usize,
+) -> Result<usize, Failed>
+    requires within { to < length bytes.old }
+    requires some { 0 < most }
     ensures front { take to bytes.new ≡ take to bytes.old }
     ensures bound { IfOk result (λ n. to + n ≤ length bytes.new) }
+    ensures most { IfOk result (λ n. n ≤ most) }
     ensures bytes { ReadConsumes (S.left source.old) (S.left source.new) result
         (drop to bytes.new) }
     ensures ended { IfOk result (λ n. n ≡ 0 → IsAtEnd (S.left source.new)) }
     ensures cause { HasCause (S.faults source.old) (S.faults source.new) result }
 {
-    source.take(&mut bytes[to..])
+    let room = most.min(bytes.len() - to);
+    source.take(&mut bytes[to..to + room])
 }

@@ -1,13 +1,13 @@
-ghost use Rattle.std.specs.Prelude.{◌≡◌, ◌≢◌, ◌==◌, ◌+◌, ◌≤◌, true, false, [], None, length, take, drop, IfOk, IfErr, MatchOption, OnOk, OnErr, IsErrOf};
-ghost use Rattle.std.specs.List.{position};
+ghost use Rattle.std.specs.Prelude.{◌≡◌, ◌≢◌, ◌+◌, ◌<◌, ◌≤◌, true, false, [], length, take, drop, IfOk, IfErr, OnOk, OnErr, IsErrOf};
 ghost use Rattle.std.specs.Io.KnownBytes.{Keeps};
 ghost use Rattle.ci_io.specs.Causes.{HasCause, Rose};
-ghost use Rattle.ci_io.specs.Lines.{HasFeedAt, HasNoFeed, without_return};
-ghost use Rattle.ci_io.specs.Reading.{Gathers, IsTooLong, BeginsTooLong, IsBeforeEnd, LeavesSource, TakesAll, ahead};
-ghost use Rattle.ci_io.specs.ReadLine.{Gives, Feeds, Finds};
+ghost use Rattle.ci_io.specs.Lines.{HasNoFeed, without_return};
+ghost use Rattle.ci_io.specs.Reading.{Gathers, IsEndless, IsLong, IsShort, BeginsTooLong, IsBeforeEnd, LeavesSource, Loses, TakesAll, TakesFed, TakesLine, ahead};
+ghost use Rattle.ci_io.specs.ReadLine.{Gives, Feeds, Finds, Passes};
 
 use crate::line_buffer::LineBuffer;
-use crate::{Failed, LINE_BYTES, Line, NoReader, ReadFault, Source};
+use crate::line_end::{LineEnd, find_feed, trim_return};
+use crate::{ENDLESS_BYTES, Failed, LINE_BYTES, Line, NoReader, ReadFault, Source};
 use ci_base::{OutOfMemory, Text8};
 use std::alloc::Global;
 use std::marker::Model;
@@ -69,15 +69,18 @@ impl<S: Source + Drop> LineReader<S> {
     /// left. Once the source has told its end it is asked no more.
     pub fn read_line(&mut self, alloc: Global) -> Result<Line, ReadFault>
         ensures ok { IfOk result (Gives self.old self.new) }
+        ensures short { IfOk result IsShort }
         ensures fed { IfOk result
             (λ line. self.new.ended ≡ false → Feeds self.old self.new line) }
         ensures last { OnOk result (self.new.ended ≡ true → TakesAll self.old self.new) }
 
-        // A refused call loses nothing, and the next one reads on.
-        ensures err { OnErr result (Keeps (ahead self.old) (ahead self.new)) }
+        // A refused call loses nothing, but for the beginning of a long line.
+        ensures err { OnErr result (Loses self.old self.new) }
+        ensures memory { IsErrOf result ReadFault.OutOfMemory →
+            Keeps (ahead self.old) (ahead self.new) }
         ensures failed { IsErrOf result ReadFault.Failed → Rose self.old.faults self.new.faults }
         ensures failed_within { IsErrOf result ReadFault.Failed → HasNoFeed self.new.held }
-        ensures endless { IsErrOf result ReadFault.Endless → IsTooLong self.new.held }
+        ensures endless { IsErrOf result ReadFault.Endless → IsEndless self.old self.new }
         ensures too_long { IsErrOf result ReadFault.Endless → BeginsTooLong (ahead self.old) }
 
         ensures stays_ended { self.old.ended ≡ true → self.new.ended ≡ true }
@@ -95,57 +98,59 @@ impl<S: Source + Drop> LineReader<S> {
         let found = self.find_end()?;
         let held = self.buffer.held().len();
         match found {
-            Some(feed) => {
+            LineEnd::Feed(feed) => {
                 let text = self.hand_out(alloc, feed, feed + 1)?;
                 Ok(Line::Text(text))
             }
-            None if held == 0 => Ok(Line::End),
-            None => {
+            LineEnd::Source if held == 0 => Ok(Line::End),
+            LineEnd::Source => {
                 let text = self.hand_out(alloc, held, held)?;
                 Ok(Line::Text(text))
+            }
+            LineEnd::Beyond => {
+                self.pass_over()?;
+                Ok(Line::Long)
             }
         }
     }
 
-    // Holds the next line, and says where its line feed stands. None is the end of the source.
-    fn find_end(&mut self) -> Result<Option<usize>, ReadFault>
+    // Holds the next line, or as much of it as a text may have and a byte more.
+    fn find_end(&mut self) -> Result<LineEnd, Failed>
         ensures gathers { Gathers self.old self.new }
         ensures ok { IfOk result (Finds self.new) }
-        ensures failed { IsErrOf result ReadFault.Failed → Rose self.old.faults self.new.faults }
-        ensures failed_within { IsErrOf result ReadFault.Failed → HasNoFeed self.new.held }
-        ensures endless { IsErrOf result ReadFault.Endless → IsTooLong self.new.held }
+        ensures failed_within { OnErr result (HasNoFeed self.new.held) }
         ensures stays_ended { self.old.ended ≡ true → self.new.ended ≡ true }
         ensures unasked { self.old.ended ≡ true → LeavesSource self.old self.new }
         ensures before_end { OnErr result (IsBeforeEnd self.old self.new) }
-        ensures later { self.old.faults ≤ self.new.faults }
-        ensures kept { OnOk result (self.new.faults ≡ self.old.faults) }
-        ensures steady { IfErr result
-            (λ e. e ≢ ReadFault.Failed → self.new.faults ≡ self.old.faults) }
-        ensures memory { IsErrOf result ReadFault.OutOfMemory → ⊥ }
+        ensures cause { HasCause self.old.faults self.new.faults result }
     {
         // The search goes on behind what was searched, so that no byte is looked at twice.
         let mut searched = 0;
         loop {
             if let Some(feed) = find_feed(self.buffer.held(), searched) {
-                return Ok(Some(feed));
+                return Ok(LineEnd::Feed(feed));
             }
             searched = self.buffer.held().len();
             if searched > LINE_BYTES {
-                return Err(ReadFault::Endless);
+                return Ok(LineEnd::Beyond);
             }
-            if self.gather()? == 0 {
-                return Ok(None);
+            // Here the buffer's room is the bound.
+            if self.gather(ENDLESS_BYTES)? == 0 {
+                return Ok(LineEnd::Source);
             }
         }
     }
 
-    // Takes more bytes from the source, unless it has told its end. 0 is that end.
-    fn gather(&mut self) -> Result<usize, Failed>
+    // Takes at most so many bytes more from the source, unless it has told its end. 0 is that end.
+    fn gather(&mut self, most: usize) -> Result<usize, Failed>
         requires room { length self.old.held ≤ LINE_BYTES }
         requires whole { HasNoFeed self.old.held }
+        requires some { 0 < most }
         ensures gathers { Gathers self.old self.new }
         ensures count { IfOk result (λ n. length self.new.held ≡ length self.old.held + n) }
-        ensures ended { result ≡ Ok 0 → Finds self.new None × (self.new.held ≡ self.old.held) }
+        ensures bound { IfOk result (λ n. n ≤ most) }
+        ensures ended { result ≡ Ok 0 →
+            Finds self.new LineEnd.Source × (self.new.held ≡ self.old.held) }
         ensures more { IfOk result (λ n. n ≢ 0 → IsBeforeEnd self.old self.new) }
         ensures err { OnErr result (self.new.held ≡ self.old.held) }
         ensures before_end { OnErr result (IsBeforeEnd self.old self.new) }
@@ -155,9 +160,67 @@ impl<S: Source + Drop> LineReader<S> {
         if self.ended {
             return Ok(0);
         }
-        let count = self.buffer.refill(&mut self.source)?;
+        let count = self.buffer.refill(&mut self.source, most)?;
         self.ended = count == 0;
         Ok(count)
+    }
+
+    // Takes the rest of a long line, up to its line feed or the end of the source.
+    fn pass_over(&mut self) -> Result<(), ReadFault>
+        requires untold { self.old.ended ≡ false }
+        requires long { IsLong self.old.held }
+        ensures ok { OnOk result (TakesLine (ahead self.old) (ahead self.new) Line.Long) }
+        ensures fed { OnOk result (self.new.ended ≡ false →
+            TakesFed (ahead self.old) (ahead self.new) Line.Long) }
+        ensures last { OnOk result (self.new.ended ≡ true → TakesAll self.old self.new) }
+        ensures err { OnErr result (Loses self.old self.new) }
+        ensures held { OnErr result (self.new.held ≡ []) }
+        ensures failed { IsErrOf result ReadFault.Failed → Rose self.old.faults self.new.faults }
+        ensures endless { IsErrOf result ReadFault.Endless → IsEndless self.old self.new }
+        ensures too_long { IsErrOf result ReadFault.Endless → BeginsTooLong (ahead self.old) }
+        ensures before_end { OnErr result (IsBeforeEnd self.old self.new) }
+        ensures later { self.old.faults ≤ self.new.faults }
+        ensures kept { OnOk result (self.new.faults ≡ self.old.faults) }
+        ensures steady { IfErr result
+            (λ e. e ≢ ReadFault.Failed → self.new.faults ≡ self.old.faults) }
+        ensures memory { IsErrOf result ReadFault.OutOfMemory → ⊥ }
+    {
+        let mut passed = self.buffer.held().len();
+        self.buffer.release(passed);
+        while passed < ENDLESS_BYTES {
+            match self.pass_some(ENDLESS_BYTES - passed)? {
+                Some(count) => passed += count,
+                None => return Ok(()),
+            }
+        }
+        Err(ReadFault::Endless)
+    }
+
+    // Takes at most so many bytes more of a long line, and answers how many. None: it has ended.
+    fn pass_some(&mut self, most: usize) -> Result<Option<usize>, Failed>
+        requires held { self.old.held ≡ [] }
+        requires untold { self.old.ended ≡ false }
+        requires some { 0 < most }
+        ensures ok { IfOk result (Passes self.old self.new most) }
+        ensures err { OnErr result (self.new.held ≡ []) }
+        ensures left { OnErr result (Keeps self.old.left self.new.left) }
+        ensures before_end { OnErr result (IsBeforeEnd self.old self.new) }
+        ensures cause { HasCause self.old.faults self.new.faults result }
+    {
+        let count = self.gather(most)?;
+        if count == 0 {
+            return Ok(None);
+        }
+        match find_feed(self.buffer.held(), 0) {
+            Some(feed) => {
+                self.buffer.release(feed + 1);
+                Ok(None)
+            }
+            None => {
+                self.buffer.release(count);
+                Ok(Some(count))
+            }
+        }
     }
 
     // Hands out the first `count` held bytes, of which the first `line` are a line.
@@ -174,32 +237,5 @@ impl<S: Source + Drop> LineReader<S> {
         let text = Text8::of(alloc, trim_return(&self.buffer.held()[..line]))?;
         self.buffer.release(count);
         Ok(text)
-    }
-}
-
-// Where the first line feed stands, of which none stands before `from`.
-fn find_feed(bytes: &[u8], from: usize) -> Option<usize>
-    requires within { from ≤ length bytes.now }
-    requires searched { HasNoFeed (take from bytes.now) }
-    ensures { MatchOption result (HasNoFeed bytes.now) (HasFeedAt bytes.now) }
-{
-    match first_feed(&bytes[from..]) {
-        Some(feed) => Some(from + feed),
-        None => None,
-    }
-}
-
-fn first_feed(bytes: &[u8]) -> Option<usize>
-    ensures { result ≡ position (λ b. b == 10) bytes.now }
-{
-    bytes.iter().position(|byte| *byte == b'\n')
-}
-
-fn trim_return(line: &[u8]) -> &[u8]
-    ensures { result.now ≡ without_return line.now }
-{
-    match line {
-        [front @ .., b'\r'] => front,
-        _ => line,
     }
 }

@@ -11,7 +11,7 @@ pub enum ReadFault {
     /// The source failed.
     #[error("the source failed")]
     Failed,
-    /// The line has over `LINE_BYTES` bytes.
+    /// The line has `ENDLESS_BYTES` bytes without a line feed.
     #[error("a line without an end")]
     Endless,
     #[error("out of memory")]

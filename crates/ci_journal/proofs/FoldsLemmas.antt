@@ -8,11 +8,13 @@ use Rattle.std.proofs.lemmas.Grind.{flat_map-append}
 use Rattle.std.proofs.lemmas.Slice.Eq.{bytes_eq-Decides}
 use Rattle.ci_journal.specs.declared.event.Event.{Event}
 use Rattle.ci_journal.specs.declared.event.Happened.TheVariants.{Noted}
-use Rattle.ci_journal.specs.declared.notice.Notice.{Notice}
+use Rattle.ci_change.specs.declared.notice.Notice.{Notice}
 use Rattle.ci_journal.specs.Bytes.{event_bytes, journal_bytes}
-use Rattle.ci_journal.specs.Folds.{request_in, asked, notice_in, notices, last_of, latest, query_in, queries, opened_in, opened, replies_to, is_replied}
+use Rattle.ci_journal.specs.Folds.{request_in, asked, notice_in, notices, last_of, latest, query_in, queries, opened_in, opened, replied_in, replied, replies_to, is_replied}
 use Rattle.ci_journal.specs.Printed.{lines_of, printed}
-use Rattle.ci_journal.specs.Served.{Served, nothing_served, serve_event, served}
+use Rattle.ci_journal.specs.Completions.{Completion, Filings, nothing_filed, file_event, filings, begun, begun_in}
+use Rattle.ci_journal.specs.Served.{nothing_served, serve, served_by}
+use Rattle.ci_journal.specs.Terms.{Terms}
 
 filter_map_one : {X Y : Type 0} (f : X → Option Y) (x : X) → filter_map f (x ∷ []) ≡ option_to_list (f x)
 filter_map_one {X} {Y} f x = by (f x) refl
@@ -49,8 +51,17 @@ printed-push journal e = flat_map-append (λ (e : Event). lines_of e.what) journ
 pub journal_bytes-push : (journal : List Event) (e : Event) → journal_bytes (journal ++ e ∷ []) ≡ journal_bytes journal + event_bytes e.what
 journal_bytes-push journal e = omega (arith, sum_by-append (λ (e : Event). event_bytes e.what) journal (e ∷ []))
 
-pub served-push : (journal : List Event) (e : Event) → served (journal ++ e ∷ []) ≡ serve_event (served journal) e.what
-served-push journal e = fold-append (λ (so_far : Served) (e : Event). serve_event so_far e.what) nothing_served journal (e ∷ [])
+pub replied-push : (journal : List Event) (e : Event) → replied (journal ++ e ∷ []) ≡ replied journal ++ option_to_list (replied_in e.what)
+replied-push journal e = filter_map-push (λ (e : Event). replied_in e.what) journal e
+
+pub begun-push : (journal : List Event) (e : Event) → begun (journal ++ e ∷ []) ≡ begun journal ++ option_to_list (begun_in e.what)
+begun-push journal e = filter_map-push (λ (e : Event). begun_in e.what) journal e
+
+pub filings-push : (journal : List Event) (e : Event) → filings (journal ++ e ∷ []) ≡ file_event (filings journal) e.what
+filings-push journal e = fold-append (λ (filed : Filings) (e : Event). file_event filed e.what) nothing_filed journal (e ∷ [])
+
+pub served_by-push : (terms : Terms) (completions : List Completion) (c : Completion) → served_by terms (completions ++ c ∷ []) ≡ serve terms (served_by terms completions) c
+served_by-push terms completions c = fold-append (serve terms) nothing_served completions (c ∷ [])
 
 pub slice_get-push : {X : Type 0} (xs : List X) (x : X) → slice_get (xs ++ x ∷ []) (length xs) ≡ Some x
 slice_get-push [] x = refl

@@ -1,14 +1,16 @@
 -- What the request of a line is.
-use Rattle.std.proofs.Common.{arith, ◌≡◌, ◌==◌, ℕ, Bool, true, false, cond, List, [], ◌∷◌, length, bytes_eq, codes, refl, IsUtf8}
+use Rattle.std.proofs.Common.{arith, ◌≡◌, ◌==◌, ◌+◌, ◌≤◌, ℕ, Bool, true, false, cond, List, [], ◌∷◌, length, bytes_eq, codes, refl, IsUtf8, length-drop}
 use Rattle.std.specs.Str.{is_utf8}
-use Rattle.std.specs.List.{before_first, after_first}
+use Rattle.std.specs.List.{position_or_len, before_first, after_first}
 use Rattle.std.proofs.lemmas.Str.{is_utf8-from_IsUtf8, IsUtf8-from_is_utf8}
+use Rattle.ci_base.specs.Path.{has_path_form}
 use Rattle.ci_words.specs.Words.{words}
 use Rattle.ci_io.specs.declared.line.Line.{Line}
-use Rattle.ci_io.specs.declared.line.Line.TheVariants.{Text, End}
+use Rattle.ci_io.specs.declared.line.Line.TheVariants as line
+use Rattle.ci_io.specs.declared.line.TheConstants.{LINE_BYTES}
 use Rattle.ci_journal.specs.declared.request.Request.{Request}
-use Rattle.ci_journal.specs.declared.request.Request.TheVariants.{Put, Query, Bad}
-use Rattle.ci_journal.specs.Requests.{IsAskable, is_space, has_space, query_request, put_request, argument_request, text_request, bytes_request, request_of}
+use Rattle.ci_journal.specs.declared.request.Request.TheVariants.{Changed, Deleted, Put, Query, Pending, Wait, Quit, Bad}
+use Rattle.ci_journal.specs.Requests.{IsAskable, IsShort, is_space, has_space, changed_request, deleted_request, query_request, put_request, argument_request, word_request, text_request, bytes_request, request_of}
 
 pub bytes_request-text : (bytes : List ℕ) → IsUtf8 bytes → bytes_request bytes ≡ text_request bytes
 bytes_request-text bytes utf8 = let e = is_utf8-from_IsUtf8 bytes utf8 in rw e
@@ -29,15 +31,29 @@ only_one [] e = absurd (grind arith)
 only_one (word ∷ []) e = (word, refl)
 only_one (word ∷ more ∷ rest) e = absurd (grind arith)
 
-IsAskable-argument : (word argument : List ℕ) → IsAskable (argument_request word argument)
-IsAskable-argument word argument =
-    IsAskable-if (bytes_eq word (codes "put")) (put_request argument) _ (λ _. IsAskable-if _ (Put _ _) Bad (λ _. tt) tt)
-    (IsAskable-if (bytes_eq word (codes "query")) (query_request argument) Bad
-    (λ _. IsAskable-if _ (Query argument) Bad (λ one. only_one (words argument) one) tt) tt)
+length-after_first : (p : ℕ → Bool) (text : List ℕ) (most : ℕ) → length text ≤ most → length (after_first p text) ≤ most
+length-after_first p text most short = omega (arith, length-drop (position_or_len p text + 1) text, short)
 
--- what a line asks for is a word, if it asks for anything
-pub IsAskable-request_of : (line : Line) → IsAskable (request_of line)
-IsAskable-request_of (Text line) =
-    IsAskable-if (is_utf8 line) (text_request line) Bad
-    (λ _. IsAskable-if (has_space line) (argument_request (before_first is_space line) (after_first is_space line)) Bad (λ _. IsAskable-argument (before_first is_space line) (after_first is_space line)) tt) tt
-IsAskable-request_of End = tt
+IsAskable-argument : (word argument : List ℕ) → length argument ≤ LINE_BYTES → IsAskable (argument_request word argument)
+IsAskable-argument word argument short =
+    IsAskable-if (bytes_eq word (codes "changed")) (changed_request argument) _ (λ _. IsAskable-if (has_path_form argument) (Changed argument) Bad (λ _. tt) tt)
+    (IsAskable-if (bytes_eq word (codes "deleted")) (deleted_request argument) _ (λ _. IsAskable-if (has_path_form argument) (Deleted argument) Bad (λ _. tt) tt)
+    (IsAskable-if (bytes_eq word (codes "put")) (put_request argument) _ (λ _. IsAskable-if _ (Put _ (after_first is_space argument)) Bad (λ _. length-after_first is_space argument LINE_BYTES short) tt)
+    (IsAskable-if (bytes_eq word (codes "query")) (query_request argument) Bad
+    (λ _. IsAskable-if _ (Query argument) Bad (λ one. only_one (words argument) one) tt) tt)))
+
+IsAskable-word : (word : List ℕ) → IsAskable (word_request word)
+IsAskable-word word =
+    IsAskable-if (bytes_eq word (codes "pending")) Pending _ (λ _. tt)
+    (IsAskable-if (bytes_eq word (codes "wait")) Wait _ (λ _. tt)
+    (IsAskable-if (bytes_eq word (codes "quit")) Quit Bad (λ _. tt) tt))
+
+-- what a line asks for is a word, if it asks for anything, and a text that it puts is no longer than it
+pub IsAskable-request_of : (line : Line) → IsShort line → IsAskable (request_of line)
+IsAskable-request_of (line.Text text) short =
+    IsAskable-if (is_utf8 text) (text_request text) Bad
+    (λ _. IsAskable-if (has_space text) (argument_request (before_first is_space text) (after_first is_space text)) (word_request text)
+    (λ _. IsAskable-argument (before_first is_space text) (after_first is_space text) (length-after_first is_space text LINE_BYTES short))
+    (IsAskable-word text)) tt
+IsAskable-request_of line.Long short = tt
+IsAskable-request_of line.End short = tt

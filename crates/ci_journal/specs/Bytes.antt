@@ -1,12 +1,18 @@
 -- What an event counts in the bound on a journal: 64 bytes, and what it holds.
-use Rattle.std.specs.Prelude.{ℕ, ◌+◌, ◌*◌, ◌-◌, ◌^◌, ◌==◌, min, List, length, sum_by}
-use Rattle.std.specs.List.{after_last}
+use Rattle.std.specs.Prelude.{ℕ, ◌+◌, ◌-◌, ◌^◌, min, List, Option, Some, None, length, sum_by}
+use Rattle.ci_base.specs.declared.numbers.Seq.{Seq}
+use Rattle.ci_base.specs.declared.value.Value.{Value}
+use Rattle.ci_base.specs.declared.value.Value.TheVariants.{Int, Str}
+use Rattle.ci_chunk.specs.declared.piece.Piece.{Piece}
+use Rattle.ci_chunk.specs.declared.piece.Piece.TheVariants.{Words, Held}
 use Rattle.ci_journal.specs.declared.event.Event.{Event}
 use Rattle.ci_journal.specs.declared.event.Happened.{Happened}
-use Rattle.ci_journal.specs.declared.event.Happened.TheVariants.{Asked, Noted, Put, Opened, Answered, Said}
+use Rattle.ci_journal.specs.declared.event.Happened.TheVariants.{Asked, Noted, Put, Erased, Begun, BatchDone, Opened, Answered, Said}
+use Rattle.ci_journal.specs.declared.outcome.Outcome.{Outcome}
+use Rattle.ci_journal.specs.declared.outcome.Outcome.TheVariants.{Done}
 use Rattle.ci_journal.specs.declared.request.Request.{Request}
 use Rattle.ci_journal.specs.declared.request.Request.TheVariants as request
-use Rattle.ci_journal.specs.Printed.{reply_line}
+use Rattle.ci_journal.specs.Printed.{reply_lines}
 
 -- a path or a text counts 8 bytes and its own
 abbrev pub text_bytes : List ℕ → ℕ
@@ -15,23 +21,50 @@ text_bytes text = 8 + length text
 abbrev pub texts_bytes : List (List ℕ) → ℕ
 texts_bytes texts = sum_by text_bytes texts
 
--- a plain document has three pieces of 40 bytes: its name, its size, and its text
-abbrev pub plain_bytes : List ℕ → List ℕ → ℕ
-plain_bytes path text = 3 * 40 + text_bytes (after_last (λ b. b == 47) path) + text_bytes text
+-- a text value counts as a text, a number and no value nothing
+abbrev pub value_bytes : Option Value → ℕ
+value_bytes None = 0
+value_bytes (Some (Int number)) = 0
+value_bytes (Some (Str text)) = text_bytes text
+
+-- a piece counts 40 bytes beside its text or its text value
+abbrev pub piece_bytes : Piece → ℕ
+piece_bytes (Words chunk text) = text_bytes text + 40
+piece_bytes (Held chunk value) = value_bytes value + 40
+
+abbrev pub transcript_bytes : List Piece → ℕ
+transcript_bytes pieces = sum_by piece_bytes pieces
+
+-- an outcome counts 8 bytes beside its transcript
+abbrev pub outcome_bytes : Outcome → ℕ
+outcome_bytes (Done transcript) = transcript_bytes transcript + 8
+
+-- a document of a batch counts 8 bytes beside its path
+abbrev pub doc_bytes : List ℕ × Seq → ℕ
+doc_bytes doc = text_bytes doc.0 + 8
 
 abbrev pub request_bytes : Request → ℕ
+request_bytes (request.Changed path) = text_bytes path
+request_bytes (request.Deleted path) = text_bytes path
 request_bytes (request.Put path text) = text_bytes path + text_bytes text
 request_bytes (request.Query text) = text_bytes text
+request_bytes request.Pending = 0
+request_bytes request.Wait = 0
+request_bytes request.Quit = 0
 request_bytes request.Bad = 0
+request_bytes request.Long = 0
 
 -- what stands beside the 64 bytes
 abbrev pub held_bytes : Happened → ℕ
 held_bytes (Asked id asked) = request_bytes asked
 held_bytes (Noted notice) = text_bytes notice.path
-held_bytes (Put path seq text) = text_bytes path + plain_bytes path text
+held_bytes (Put path seq transcript) = text_bytes path + transcript_bytes transcript
+held_bytes (Erased path seq) = text_bytes path
+held_bytes (Begun batch) = sum_by doc_bytes batch.docs
+held_bytes (BatchDone number outcomes) = sum_by outcome_bytes outcomes
 held_bytes (Opened id) = 0
 held_bytes (Answered id at paths) = texts_bytes paths
-held_bytes (Said id reply) = length (reply_line id reply)
+held_bytes (Said id reply) = length (reply_lines id reply)
 
 abbrev pub event_bytes : Happened → ℕ
 event_bytes what = held_bytes what + 64

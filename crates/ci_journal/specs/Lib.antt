@@ -1,7 +1,9 @@
 pub mod Bytes
+pub mod Completions
 pub mod Events
 pub mod Folds
 pub mod Printed
 pub mod Requests
 pub mod Served
 pub mod Step
+pub mod Terms

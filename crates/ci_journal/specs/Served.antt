@@ -1,64 +1,65 @@
--- The map that a journal tells: from each document to the words of its last filtering that counted.
-use Rattle.std.specs.Prelude.{ℕ, Bool, nat_lt, List, unwrap_or, fold, filter, map, bytes_eq, if◌then◌else◌}
+-- The map that a journal tells: from each document to the entry of its last filtering that counted.
+use Rattle.std.specs.Prelude.{◌==◌, ◌&&◌, ℕ, Bool, nat_lt, List, [], ◌∷◌, ◌++◌, Option, Some, None, fold, filter, map, bytes_eq, if◌then◌else◌}
 use Rattle.std.specs.List.{list_any}
 use Rattle.std.specs.Ordering.{nat_cmp}
 use Rattle.std.specs.Cmp.Lexicographic.{slice_cmp}
 use Rattle.std.specs.declared.cmp.Ordering.{Ordering}
 use Rattle.std.specs.FinMap as map_of_keys
-use Rattle.ci_words.specs.Words.{words}
+use Rattle.ci_base.specs.declared.numbers.Seq.{Seq}
+use Rattle.ci_change.specs.Pending.{served_number}
+use Rattle.ci_chunk.specs.declared.piece.Piece.{Piece}
+use Rattle.ci_entry.specs.Entry.{entry_of}
+use Rattle.ci_keys.specs.declared.key.Key.{Key}
+use Rattle.ci_keys.specs.Entry.{EntryLists}
 use Rattle.ci_journal.specs.declared.event.Event.{Event}
-use Rattle.ci_journal.specs.declared.event.Happened.{Happened}
-use Rattle.ci_journal.specs.declared.event.Happened.TheVariants.{Asked, Noted, Put, Opened, Answered, Said}
+use Rattle.ci_journal.specs.Completions.{Completion, completed}
+use Rattle.ci_journal.specs.Terms.{Terms}
 
 -- paths go by their bytes
 abbrev pub path_cmp : List ℕ → List ℕ → Ordering
 path_cmp = slice_cmp nat_cmp
 
--- the words of a document, in order
-abbrev pub Entry : Type 0
-Entry = List (List ℕ)
-
 -- documents with their entries
 abbrev pub Documents : Type 0
-Documents = map_of_keys.FinMap path_cmp Entry
+Documents = map_of_keys.FinMap path_cmp EntryLists
 
--- what was served: for each path the number of the last notice that counted, and the documents
+-- what was served: each path with the number that it was served under, and the documents
 pub record Served : Type 0 where
-  pub numbers : map_of_keys.FinMap path_cmp ℕ
+  pub numbers : List (List ℕ × Seq)
   pub documents : Documents
 
 abbrev pub nothing_served : Served
-nothing_served = record { numbers = map_of_keys.empty; documents = map_of_keys.empty }
+nothing_served = record { numbers = []; documents = map_of_keys.empty }
 
--- the path's served number, 0 where no notice of it counted yet
-abbrev pub served_number : Served → List ℕ → ℕ
-served_number served path = unwrap_or (map_of_keys.get served.numbers path) 0
+-- a document gets the entry of its transcript, or is taken away
+abbrev pub settle : Terms → Documents → List ℕ → Option (List Piece) → Documents
+settle terms documents path (Some pieces) = map_of_keys.insert documents path (entry_of terms.noise pieces)
+settle terms documents path None = map_of_keys.remove documents path
 
--- the entry under the notice `seq` counts where `seq` is above the path's served number
-abbrev pub serve_entry : Served → List ℕ → ℕ → Entry → Served
-serve_entry served path seq entry =
-    if nat_lt (served_number served path) seq
-    then record { numbers = map_of_keys.insert served.numbers path seq; documents = map_of_keys.insert served.documents path entry }
-    else served
+-- a completion counts where its number is above the path's served number
+abbrev pub serve : Terms → Served → Completion → Served
+serve terms served c = record {
+  numbers = served.numbers ++ (c.path, c.seq) ∷ [];
+  documents = if nat_lt (served_number served.numbers c.path) c.seq.0
+      then settle terms served.documents c.path c.filtered
+      else served.documents;
+}
 
-abbrev pub serve_event : Served → Happened → Served
-serve_event served (Asked id request) = served
-serve_event served (Noted notice) = served
-serve_event served (Put path seq text) = serve_entry served path seq.0 (words text)
-serve_event served (Opened id) = served
-serve_event served (Answered id at paths) = served
-serve_event served (Said id reply) = served
-
--- what the events served, one after the other
-abbrev pub served : List Event → Served
-served journal = fold (λ so_far e. serve_event so_far e.what) nothing_served journal
+-- what the completions served, one after the other
+abbrev pub served_by : Terms → List Completion → Served
+served_by terms completions = fold (serve terms) nothing_served completions
 
 -- the map from each document to its last filtering that counted
-abbrev pub live_map : List Event → Documents
-live_map journal = (served journal).documents
+abbrev pub live_map : Terms → List Event → Documents
+live_map terms journal = (served_by terms (completed journal)).documents
 
-abbrev pub has_word : List ℕ → Entry → Bool
-has_word word entry = list_any (bytes_eq word) entry
+-- the key is the word, in the contents of a document
+abbrev pub is_content : List ℕ → Key → Bool
+is_content word key = (key.property.0 == 1) && bytes_eq key.word word
+
+-- the contents of the document have the word
+abbrev pub has_word : List ℕ → EntryLists → Bool
+has_word word entry = list_any (λ w. is_content word w.0) entry.words
 
 -- the documents that have the word, in byte order of their paths
 abbrev pub hits : List ℕ → Documents → List (List ℕ)

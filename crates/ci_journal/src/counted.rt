@@ -1,9 +1,11 @@
-ghost use Rattle.std.specs.Prelude.{◌≡◌, ◌+◌, ◌^◌, ◌<◌, length, decimal};
-ghost use Rattle.ci_journal.specs.Bytes.{capped, event_bytes, request_bytes, plain_bytes, text_bytes, texts_bytes};
-ghost use Rattle.ci_journal.specs.Printed.{answer_lines, reply_line, reply_text};
+ghost use Rattle.std.specs.Prelude.{◌≡◌, ◌+◌, ◌^◌, ◌<◌, length, flat_map, decimal, sum_by};
+ghost use Rattle.ci_journal.specs.Bytes.{capped, event_bytes, request_bytes, text_bytes, texts_bytes, value_bytes, piece_bytes, transcript_bytes, outcome_bytes, doc_bytes};
+ghost use Rattle.ci_journal.specs.Printed.{notice_line, pending_lines, reply_lines, word_line};
 
-use crate::{Event, Happened, Reply, Request};
-use ci_base::{PathText, Text};
+use crate::{Event, Happened, Outcome, Reply, Request};
+use ci_base::{PathText, Seq, Value};
+use ci_change::Notice;
+use ci_chunk::{Piece, Transcript};
 
 /// What every event counts, beside what it holds.
 pub const EVENT_BYTES: u64 = 64;
@@ -11,8 +13,9 @@ pub const EVENT_BYTES: u64 = 64;
 /// What a piece of a document counts beside its text.
 const PIECE_BYTES: u64 = 40;
 
-/// What a text counts beside its bytes.
-const TEXT_BYTES: u64 = 8;
+/// What a text counts beside its bytes, and a document of a batch or an outcome beside what it
+/// holds.
+const ITEM_BYTES: u64 = 8;
 
 impl Event {
     /// What the event counts in the bound on a journal. A count ends at the greatest `u64`.
@@ -31,12 +34,19 @@ impl Happened {
         match self {
             Happened::Asked { request, .. } => asked_bytes(request),
             Happened::Noted { notice } => noted_bytes(&notice.path),
-            Happened::Put { path, text, .. } => put_bytes(path, text),
+            Happened::Put {
+                path,
+                transcript,
+                ..
+            } => put_bytes(path, transcript),
+            Happened::Erased { path, .. } => erased_bytes(path),
+            Happened::Begun { batch } => begun_bytes(batch.docs.items()),
+            Happened::BatchDone { outcomes, .. } => done_bytes(outcomes.items()),
             Happened::Opened { .. } => EVENT_BYTES,
             Happened::Answered { paths, .. } => paths_len(paths.items()).saturating_add(
                 EVENT_BYTES,
             ),
-            Happened::Said { id, reply } => reply_len(*id, *reply).saturating_add(EVENT_BYTES),
+            Happened::Said { id, reply } => reply_len(*id, reply).saturating_add(EVENT_BYTES),
         }
     }
 }
@@ -55,11 +65,44 @@ pub fn noted_bytes(path: &PathText) -> u64
     text_len(path.as_str()).saturating_add(EVENT_BYTES)
 }
 
-/// What a put of the text will count, before the event is made.
-pub fn put_bytes(path: &PathText, text: &Text) -> u64
-    ensures { result ≡ capped (text_bytes path.now + plain_bytes path.now text.now + 64) }
+/// What a put of the transcript will count, before the event is made.
+pub fn put_bytes(path: &PathText, transcript: &Transcript) -> u64
+    ensures { result ≡ capped (text_bytes path.now + transcript_bytes transcript.now + 64) }
 {
-    put_len(path, text.as_str()).saturating_add(EVENT_BYTES)
+    text_len(path.as_str())
+        .saturating_add(pieces_len(transcript.items()))
+        .saturating_add(EVENT_BYTES)
+}
+
+/// What an erasure of the path will count, before the event is made.
+pub fn erased_bytes(path: &PathText) -> u64
+    ensures { result ≡ capped (text_bytes path.now + 64) }
+{
+    text_len(path.as_str()).saturating_add(EVENT_BYTES)
+}
+
+/// What the beginning of a batch of these documents will count, before the event is made.
+pub fn begun_bytes(docs: &[(PathText, Seq)]) -> u64
+    ensures { result ≡ capped (sum_by doc_bytes docs.now + 64) }
+{
+    let mut len: u64 = 0;
+    for (path, _) in docs {
+        len = len
+            .saturating_add(text_len(path.as_str()))
+            .saturating_add(ITEM_BYTES);
+    }
+    len.saturating_add(EVENT_BYTES)
+}
+
+/// What the end of a batch with these outcomes will count, before the event is made.
+pub fn done_bytes(outcomes: &[Outcome]) -> u64
+    ensures { result ≡ capped (sum_by outcome_bytes outcomes.now + 64) }
+{
+    let mut len: u64 = 0;
+    for outcome in outcomes {
+        len = len.saturating_add(outcome_len(outcome));
+    }
+    len.saturating_add(EVENT_BYTES)
 }
 
 impl Request {
@@ -67,11 +110,17 @@ impl Request {
         ensures { result ≡ capped (request_bytes self.now) }
     {
         match self {
+            Request::Changed(path) => text_len(path.as_str()),
+            Request::Deleted(path) => text_len(path.as_str()),
             Request::Put { path, text } => {
                 text_len(path.as_str()).saturating_add(text_len(text.as_str()))
             }
             Request::Query(text) => text_len(text.as_str()),
+            Request::Pending => 0,
+            Request::Wait => 0,
+            Request::Quit => 0,
             Request::Bad => 0,
+            Request::Long => 0,
         }
     }
 }
@@ -79,17 +128,44 @@ impl Request {
 fn text_len(text: &str) -> u64
     ensures { result ≡ capped (text_bytes text.now) }
 {
-    (text.len() as u64).saturating_add(TEXT_BYTES)
+    (text.len() as u64).saturating_add(ITEM_BYTES)
 }
 
-// The document's path, and its three pieces: its name, its size and its text.
-fn put_len(path: &PathText, text: &str) -> u64
-    ensures { result ≡ capped (text_bytes path.now + plain_bytes path.now text.now) }
+fn outcome_len(outcome: &Outcome) -> u64
+    ensures { result ≡ capped (outcome_bytes outcome.now) }
 {
-    text_len(path.as_str())
-        .saturating_add(3 * PIECE_BYTES)
-        .saturating_add(text_len(path.last_part()))
-        .saturating_add(text_len(text))
+    match outcome {
+        Outcome::Done(transcript) => pieces_len(transcript.items()).saturating_add(ITEM_BYTES),
+    }
+}
+
+fn pieces_len(pieces: &[Piece]) -> u64
+    ensures { result ≡ capped (transcript_bytes pieces.now) }
+{
+    let mut len: u64 = 0;
+    for piece in pieces {
+        len = len.saturating_add(piece_len(piece));
+    }
+    len
+}
+
+fn piece_len(piece: &Piece) -> u64
+    ensures { result ≡ capped (piece_bytes piece.now) }
+{
+    match piece {
+        Piece::Words { text, .. } => text_len(text.as_str()).saturating_add(PIECE_BYTES),
+        Piece::Held { value, .. } => value_len(value).saturating_add(PIECE_BYTES),
+    }
+}
+
+fn value_len(value: &Option<Value>) -> u64
+    ensures { result ≡ capped (value_bytes value.now) }
+{
+    match value {
+        None => 0,
+        Some(Value::Int(_)) => 0,
+        Some(Value::Str(text)) => text_len(text.as_str()),
+    }
 }
 
 fn paths_len(paths: &[PathText]) -> u64
@@ -102,11 +178,44 @@ fn paths_len(paths: &[PathText]) -> u64
     len
 }
 
-// The printed line has the number, a space, the word and a line feed.
-fn reply_len(id: u64, reply: Reply) -> u64
-    ensures { result ≡ length (reply_line id reply) }
+fn reply_len(id: u64, reply: &Reply) -> u64
+    ensures { result ≡ capped (length (reply_lines id reply.now)) }
 {
-    decimal_len(id) + reply.text().len() as u64 + 2
+    match reply {
+        Reply::Ok => word_len(id, "ok"),
+        Reply::Bad => word_len(id, "bad"),
+        Reply::Long => word_len(id, "long"),
+        Reply::Pending(notices) => pending_len(id, notices.items()),
+        Reply::Done => word_len(id, "done"),
+        Reply::Bye => word_len(id, "bye"),
+    }
+}
+
+// The printed line has the number, a space, the word and a line feed.
+fn word_len(id: u64, word: &str) -> u64
+    ensures { result ≡ capped (length (word_line id word.now)) }
+{
+    (word.len() as u64).saturating_add(decimal_len(id) + 2)
+}
+
+// The first line has both numbers, the word with spaces around it, and a line feed.
+fn pending_len(id: u64, notices: &[Notice]) -> u64
+    ensures { result ≡ capped (length (pending_lines id notices.now)) }
+{
+    notices_len(notices).saturating_add(decimal_len(id) + decimal_len(notices.len() as u64) + 10)
+}
+
+// Each line has a word of seven letters, a space, the path and a line feed.
+fn notices_len(notices: &[Notice]) -> u64
+    ensures { result ≡ capped (length (flat_map notice_line notices.now)) }
+{
+    let mut len: u64 = 0;
+    for notice in notices {
+        len = len
+            .saturating_add(notice.path.as_str().len() as u64)
+            .saturating_add(9);
+    }
+    len
 }
 
 fn decimal_len(number: u64) -> u64

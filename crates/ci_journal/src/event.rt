@@ -1,7 +1,9 @@
 ghost use Rattle.std.specs.Prelude.{◌≡◌, IfOk};
 
-use crate::{Notice, Paths, Reply, Request};
-use ci_base::{OutOfMemory, PathText, Seq, Text};
+use crate::{Outcomes, Paths, Reply, Request};
+use ci_base::{OutOfMemory, PathText, Seq};
+use ci_change::{Batch, Notice};
+use ci_chunk::Transcript;
 use std::alloc::Global;
 
 /// One event of a session.
@@ -20,21 +22,36 @@ pub enum Happened {
         id: u64,
         request: Request,
     },
-    /// A document has to be filtered.
+    /// A document was changed or deleted.
     Noted {
         notice: Notice,
     },
-    /// The text was taken as the document's filtering under the notice of this number.
+    /// The transcript was taken as the document's filtering under the notice of this number.
     Put {
         path: PathText,
         seq: Seq,
-        text: Text,
+        transcript: Transcript,
+    },
+    /// The document was taken away under the notice of this number.
+    Erased {
+        path: PathText,
+        seq: Seq,
+    },
+    /// These documents are out, to be filtered.
+    Begun {
+        batch: Batch,
+    },
+    /// The batch of this number was filtered, with an outcome for each document in order.
+    BatchDone {
+        number: u64,
+        outcomes: Outcomes,
     },
     /// A query was opened: its answer speaks of the map right behind this event.
     Opened {
         id: u64,
     },
-    /// The query that was opened right before place `at` of the journal has these hits; they are printed.
+    /// The query that was opened right before place `at` of the journal has these hits; they are
+    /// printed.
     Answered {
         id: u64,
         at: u64,
@@ -72,21 +89,53 @@ impl Happened {
             Happened::Noted { notice } => Happened::Noted {
                 notice: notice.copy(alloc)?,
             },
-            Happened::Put { path, seq, text } => Happened::Put {
+            Happened::Put {
+                path,
+                seq,
+                transcript,
+            } => copy_put(alloc, path, *seq, transcript)?,
+            Happened::Erased { path, seq } => Happened::Erased {
                 path: path.copy(alloc)?,
                 seq: *seq,
-                text: text.copy(alloc)?,
+            },
+            Happened::Begun { batch } => Happened::Begun {
+                batch: batch.copy(alloc)?,
+            },
+            Happened::BatchDone { number, outcomes } => Happened::BatchDone {
+                number: *number,
+                outcomes: outcomes.copy(alloc)?,
             },
             Happened::Opened { id } => Happened::Opened { id: *id },
-            Happened::Answered { id, at, paths } => Happened::Answered {
-                id: *id,
-                at: *at,
-                paths: paths.copy(alloc)?,
-            },
+            Happened::Answered { id, at, paths } => copy_answered(alloc, *id, *at, paths)?,
             Happened::Said { id, reply } => Happened::Said {
                 id: *id,
-                reply: *reply,
+                reply: reply.copy(alloc)?,
             },
         })
     }
+}
+
+fn copy_put(
+    alloc: Global,
+    path: &PathText,
+    seq: Seq,
+    transcript: &Transcript,
+) -> Result<Happened, OutOfMemory>
+    ensures { IfOk result (λ what. what ≡ Happened.Put path.now seq transcript.now) }
+{
+    Ok(Happened::Put {
+        path: path.copy(alloc)?,
+        seq,
+        transcript: transcript.copy(alloc)?,
+    })
+}
+
+fn copy_answered(alloc: Global, id: u64, at: u64, paths: &Paths) -> Result<Happened, OutOfMemory>
+    ensures { IfOk result (λ what. what ≡ Happened.Answered id at paths.now) }
+{
+    Ok(Happened::Answered {
+        id,
+        at,
+        paths: paths.copy(alloc)?,
+    })
 }

@@ -5,8 +5,8 @@ use ci_base::OutOfMemory;
 use std::alloc::Global;
 use std::marker::Model;
 
-/// The events of a session in order. Contracts see the list, and beside it the number of events that
-/// can be added without taking memory.
+/// The events of a session in order. Contracts see the list, and beside it the number of events
+/// that can be added without taking memory.
 #[derive(Debug, Drop)]
 pub struct Journal {
     events: Vec<Event>,
@@ -18,7 +18,10 @@ impl Model for Journal {
 
     ghost Value = { Events };
 
-    ghost view = { λ j. record { list = j.events.items; spare = vec_capacity j.events - vec_len j.events } };
+    ghost view = { λ j. record {
+      list = j.events.items;
+      spare = vec_capacity j.events - vec_len j.events;
+    } };
 }
 
 impl Journal {

@@ -8,6 +8,7 @@ use Rattle.ci_journal.specs.Folds.{asked, opened, request_in}
 use Rattle.ci_journal.specs.Served.{live_map, hits}
 use Rattle.ci_journal.specs.Step.{May, MayAnswer, MayOpen, Run}
 use Rattle.ci_journal.specs.Step.Run.{Empty, Next}
+use Rattle.ci_journal.specs.Terms.{Terms}
 use Rattle.ci_journal.proofs.FoldsLemmas.{slice_get-append}
 use Rattle.ci_journal.proofs.RunLemmas.{IsAsked-first}
 use Rattle.std.proofs.lemmas.List.Elements.{filter_map-append}
@@ -37,24 +38,24 @@ get-last (z ∷ xs) x y zero within found = absurd (omega (arith, within))
 get-last (z ∷ xs) x y (suc n) within found = let last = get-last xs x y n (omega (arith, within)) found in (ap suc last.0, last.1)
 
 -- the events before a place of a run are a run
-pub Run-take : (journal : List Event) → Run journal → (place : ℕ) → Run (take place journal)
-Run-take _ Empty zero = Empty
-Run-take _ Empty (suc place) = Empty
-Run-take _ (Next journal event run may) place =
-    ⊎_elim (λ within. subst Run (sym (take-front journal (event ∷ []) place within)) (Run-take journal run place))
-    (λ above. subst Run (sym (take_all place (journal ++ event ∷ []) (omega (arith, above, length-append journal (event ∷ []))))) (Next journal event run may))
+pub Run-take : (terms : Terms) (journal : List Event) → Run terms journal → (place : ℕ) → Run terms (take place journal)
+Run-take terms _ Empty zero = Empty
+Run-take terms _ Empty (suc place) = Empty
+Run-take terms _ (Next journal event run may) place =
+    ⊎_elim (λ within. subst (Run terms) (sym (take-front journal (event ∷ []) place within)) (Run-take terms journal run place))
+    (λ above. subst (Run terms) (sym (take_all place (journal ++ event ∷ []) (omega (arith, above, length-append journal (event ∷ []))))) (Next journal event run may))
     (within_or_above place (length journal))
 
 -- each event of a run might come behind the events before it
-pub May-at : (journal : List Event) → Run journal → (place : ℕ) (event : Event) → slice_get journal place ≡ Some event → May (take place journal) event.by event.what
-May-at _ Empty place event found = absurd (cc)
-May-at _ (Next journal last run may) place event found =
+pub May-at : (terms : Terms) (journal : List Event) → Run terms journal → (place : ℕ) (event : Event) → slice_get journal place ≡ Some event → May terms (take place journal) event.by event.what
+May-at terms _ Empty place event found = absurd (cc)
+May-at terms _ (Next journal last run may) place event found =
     ⊎_elim (λ above. let same = get-last journal last event place above found in
-    subst (λ n. May (take n (journal ++ last ∷ [])) event.by event.what) (sym same.0)
-    (subst (λ (e : Event). May (take (length journal) (journal ++ last ∷ [])) e.by e.what) same.1
-    (subst (λ js. May js last.by last.what) (sym (take-front journal (last ∷ []) (length journal) (omega arith) ∙ take_all (length journal) journal (omega arith))) may)))
-    (λ below. subst (λ js. May js event.by event.what) (sym (take-front journal (last ∷ []) place (omega (arith, below))))
-    (May-at journal run place event (sym (get-front journal (last ∷ []) place below) ∙ found)))
+    subst (λ n. May terms (take n (journal ++ last ∷ [])) event.by event.what) (sym same.0)
+    (subst (λ (e : Event). May terms (take (length journal) (journal ++ last ∷ [])) e.by e.what) same.1
+    (subst (λ js. May terms js last.by last.what) (sym (take-front journal (last ∷ []) (length journal) (omega arith) ∙ take_all (length journal) journal (omega arith))) may)))
+    (λ below. subst (λ js. May terms js event.by event.what) (sym (take-front journal (last ∷ []) place (omega (arith, below))))
+    (May-at terms journal run place event (sym (get-front journal (last ∷ []) place below) ∙ found)))
     (within_or_above (length journal) place)
 
 get-take : {X : Type 0} (xs : List X) (n k : ℕ) (x : X) → slice_get (take n xs) k ≡ Some x → (k < n) × (slice_get xs k ≡ Some x)
@@ -82,14 +83,14 @@ asked-earlier journal early late below k r found =
     (subst (λ rs. slice_get rs k ≡ Some r) (sym (filter_map-append (λ (e : Event). request_in e.what) (take early journal) (drop early (take late journal))))
     (slice_get-append (asked (take early journal)) _ k r found))
 
-answers-at : (journal : List Event) → Run journal → (place : ℕ) (event : Event) (id at : ℕ) (paths : List (List ℕ)) → slice_get journal place ≡ Some event → event.what ≡ Answered id at paths → AnswersAt journal place id at paths
-answers-at journal run place event id at paths found is =
-    let may : MayAnswer (take place journal) id at paths = subst (May (take place journal) event.by) is (May-at journal run place event found) in
+answers-at : (terms : Terms) (journal : List Event) → Run terms journal → (place : ℕ) (event : Event) (id at : ℕ) (paths : List (List ℕ)) → slice_get journal place ≡ Some event → event.what ≡ Answered id at paths → AnswersAt terms journal place id at paths
+answers-at terms journal run place event id at paths found is =
+    let may : MayAnswer terms (take place journal) id at paths = subst (May terms (take place journal) event.by) is (May-at terms journal run place event found) in
     let right = may.right in
     let opened_at = get-take journal place (at - 1) right.opening right.opened_at in
     let before : at ≤ place = omega (arith, opened_at.0, right.behind) in
-    let opening : MayOpen (take (at - 1) journal) id = subst (May (take (at - 1) journal) right.opening.by) right.opens (May-at journal run (at - 1) right.opening opened_at.1) in
-    let query = IsAsked-first (take (at - 1) journal) (Run-take journal run (at - 1)) (length (opened (take (at - 1) journal))) (id, opening.word) opening.first in
+    let opening : MayOpen (take (at - 1) journal) id = subst (May terms (take (at - 1) journal) right.opening.by) right.opens (May-at terms journal run (at - 1) right.opening opened_at.1) in
+    let query = IsAsked-first terms (take (at - 1) journal) (Run-take terms journal run (at - 1)) (length (opened (take (at - 1) journal))) (id, opening.word) opening.first in
     let later = asked-earlier journal (at - 1) place (omega (arith, before)) (id - 1) query.request query.asked_as in
     let same : query.request ≡ right.request = let both : Some query.request ≡ Some right.request = sym later ∙ right.asked_as in cc in
     record {
@@ -102,10 +103,10 @@ answers-at journal run place event id at paths found is =
       opens = right.opens;
       behind = right.behind;
       before = before;
-      hits = right.hits ∙ ap (λ js. hits right.word (live_map js)) (take-shorter journal at place before);
+      hits = right.hits ∙ ap (λ js. hits right.word (live_map terms js)) (take-shorter journal at place before);
       only = may.unreplied;
     }
 
 -- so each answer of a run lists the hits at its own point
-pub AllAnswer-run : (journal : List Event) → Run journal → AllAnswer journal
-AllAnswer-run journal run place event id at paths found is = answers-at journal run place event id at paths found is
+pub AllAnswer-run : (terms : Terms) (journal : List Event) → Run terms journal → AllAnswer terms journal
+AllAnswer-run terms journal run place event id at paths found is = answers-at terms journal run place event id at paths found is

@@ -1,9 +1,9 @@
 //! The catalogue's steps, and the journal that they leave.
 
 use ci_base::{PathText, Seq, Text, Text8};
-use ci_core::{Catalog, CoreFault, Settings};
-use ci_io::{Line, SureMemorySink};
-use ci_journal::{Happened, Notice, Paths, Reply, Request, What};
+use ci_core::{Catalog, Settings};
+use ci_io::{LINE_BYTES, Line, SureMemorySink};
+use ci_journal::{Event, Happened, Notice, Paths, Reply, Request, What};
 use std::alloc::Global;
 use std::test::Fail;
 
@@ -12,6 +12,9 @@ fn path(alloc: Global, text: &str) -> Result<PathText, Fail> {
 }
 
 fn request(alloc: Global, line: &str) -> Result<Request, Fail> {
+    if line.len() > LINE_BYTES {
+        return Err(Fail::new("too long a line"));
+    }
     Ok(Request::read(alloc, &Line::Text(Text8::of(alloc, line.as_bytes())?))?)
 }
 
@@ -25,6 +28,9 @@ fn requests_are_read(rt: HostRuntime) -> Result<(), Fail> {
     assert!(rt; request(alloc, "put /d/a.txt Red  fox")? == put);
     assert!(rt; put.copy(alloc)? == put);
     assert!(rt; request(alloc, "query FOX")? == Request::Query(Text::of(alloc, "FOX")?));
+    assert!(rt; request(alloc, "changed /a b")? == Request::Changed(path(alloc, "/a b")?));
+    assert!(rt; request(alloc, "deleted /a")? == Request::Deleted(path(alloc, "/a")?));
+    assert!(rt; request(alloc, "pending")? == Request::Pending);
     for line in [
         "",
         "put",
@@ -33,6 +39,9 @@ fn requests_are_read(rt: HostRuntime) -> Result<(), Fail> {
         " query x",
         "query",
         "query a b",
+        "changed",
+        "deleted a",
+        "wait now",
     ] {
         assert!(rt; request(alloc, line)? == Request::Bad, "{line:?}");
     }
@@ -43,53 +52,57 @@ fn requests_are_read(rt: HostRuntime) -> Result<(), Fail> {
 fn a_query_without_a_question_opens_nothing(rt: HostRuntime) -> Result<(), Fail> {
     let alloc = rt.alloc();
     let sink = SureMemorySink::new(alloc, 64, 64)?;
-    let mut catalog = Catalog::new(alloc, sink, &Settings::standard());
+    let settings = Settings::standard(alloc)?;
+    let mut catalog = Catalog::new(alloc, sink, &settings)
+        .ok()
+        .ok_or("no memory")?;
     assert!(rt; matches!(catalog.open_query(0), Ok(None)));
     let closed = catalog.close();
     assert!(rt; closed.journal.events().is_empty());
     Ok(())
 }
 
+// Whether the event prints these lines, and its copy counts so many bytes.
+fn prints(alloc: Global, what: Happened, lines: &str, bytes: u64) -> Result<bool, Fail> {
+    let event = Event { by: 0, what };
+    Ok(event.lines(alloc)?.items() == lines.as_bytes() && event.copy(alloc)?.bytes() == bytes)
+}
+
 #[test]
-fn events_print_and_copy(rt: HostRuntime) -> Result<(), Fail> {
+fn replies_print(rt: HostRuntime) -> Result<(), Fail> {
+    let reply = Happened::Said {
+        id: 12,
+        reply: Reply::Ok,
+    };
+    assert!(rt; prints(rt.alloc(), reply, "12 ok\n", 64 + 6)?);
+    Ok(())
+}
+
+#[test]
+fn answers_print(rt: HostRuntime) -> Result<(), Fail> {
     let alloc = rt.alloc();
     let mut paths = Paths::new(alloc);
     paths.add(path(alloc, "/d/a.txt")?)?;
-    let rows = [
-        (
-            Happened::Said {
-                id: 12,
-                reply: Reply::Ok,
-            },
-            "12 ok\n",
-            64 + 6,
-        ),
-        (
-            Happened::Answered {
-                id: 3,
-                at: 10,
-                paths,
-            },
-            "3 hits 1 at 10\n/d/a.txt\n",
-            64 + 16,
-        ),
-        (Happened::Opened { id: 1 }, "", 64),
-        (
-            Happened::Noted {
-                notice: Notice {
-                    path: path(alloc, "/a")?,
-                    seq: Seq(1),
-                    what: What::Changed,
-                },
-            },
-            "",
-            64 + 10,
-        ),
-    ];
-    for (what, lines, bytes) in rows {
-        let event = ci_journal::Event { by: 0, what };
-        assert_eq!(rt; event.lines(alloc)?.items(), lines.as_bytes());
-        assert_eq!(rt; event.copy(alloc)?.bytes(), bytes);
-    }
+    let answer = Happened::Answered {
+        id: 3,
+        at: 10,
+        paths,
+    };
+    assert!(rt; prints(alloc, answer, "3 hits 1 at 10\n/d/a.txt\n", 64 + 16)?);
+    Ok(())
+}
+
+#[test]
+fn other_events_print_nothing(rt: HostRuntime) -> Result<(), Fail> {
+    let alloc = rt.alloc();
+    assert!(rt; prints(alloc, Happened::Opened { id: 1 }, "", 64)?);
+    let noted = Happened::Noted {
+        notice: Notice {
+            path: path(alloc, "/a")?,
+            seq: Seq(1),
+            what: What::Changed,
+        },
+    };
+    assert!(rt; prints(alloc, noted, "", 64 + 10)?);
     Ok(())
 }

@@ -4,6 +4,12 @@
 #[cfg(test)]
 mod catalogue;
 #[cfg(test)]
+mod ends;
+#[cfg(test)]
+mod lines;
+#[cfg(test)]
 mod pieces;
 #[cfg(test)]
 mod session;
+#[cfg(test)]
+mod sessions;

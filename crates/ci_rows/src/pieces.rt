@@ -4,6 +4,8 @@ ghost use Rattle.std.specs.Prelude.{None};
 
 use ci_base::Text8;
 use ci_io::{Failed, Source};
+use std::alloc::Global;
+use std::test::Fail;
 
 /// Bytes of which a call gives at most so many. It tells a contract nothing.
 #[derive(Drop)]
@@ -11,6 +13,16 @@ pub(crate) struct Pieces {
     pub(crate) bytes: Text8,
     pub(crate) given: usize,
     pub(crate) most: usize,
+}
+
+impl Pieces {
+    pub(crate) fn of(alloc: Global, text: &str, most: usize) -> Result<Pieces, Fail> {
+        Ok(Pieces {
+            bytes: Text8::of(alloc, text.as_bytes())?,
+            given: 0,
+            most,
+        })
+    }
 }
 
 impl Source for Pieces {

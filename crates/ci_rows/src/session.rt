@@ -1,31 +1,14 @@
-//! Worked sessions: what is read, what is printed, and how the session ends.
+//! Worked sessions: what is read, and what is printed.
 
 use crate::pieces::Pieces;
-use ci_base::{Text, Text8};
+use crate::sessions::over_memory;
+use ci_base::Text8;
 use ci_core::Settings;
-use ci_io::{MemorySink, MemorySource, Sink, Source, SureMemorySink, SureMemorySource};
+use ci_io::SureMemorySink;
 use ci_journal::Happened;
-use ci_server::{Session, Status, run, run_steps};
-use std::alloc::{AllocError, Global};
+use ci_server::{Status, run_steps};
+use std::alloc::Global;
 use std::test::Fail;
-
-fn command(alloc: Global, words: &[&str]) -> Result<Vec<Text>, Fail> {
-    let mut command = Vec::new(alloc);
-    for word in words {
-        command.push(Text::of(alloc, word)?)?;
-    }
-    Ok(command)
-}
-
-fn over_memory(
-    alloc: Global,
-    lines: &str,
-) -> Result<Session<SureMemorySource, SureMemorySink>, Fail> {
-    let source = SureMemorySource::new(alloc, Text8::of(alloc, lines.as_bytes())?);
-    let sink = SureMemorySink::new(alloc, 4096, 4096)?;
-    let words = command(alloc, &["cisvc", "steps", "/"])?;
-    Ok(run(alloc, &words, source, sink))
-}
 
 #[test]
 fn lines_are_answered(rt: HostRuntime) -> Result<(), Fail> {
@@ -73,18 +56,94 @@ fn lines_are_answered(rt: HostRuntime) -> Result<(), Fail> {
 }
 
 #[test]
+fn notices_are_pending_until_they_are_served(rt: HostRuntime) -> Result<(), Fail> {
+    let rows = [
+        (
+            "changed /d/a.txt\ndeleted /d/b.txt\npending\n",
+            "1 ok\n2 ok\n3 pending 1\nchanged /d/a.txt\n",
+            9,
+        ),
+        // in byte order of paths
+        (
+            "changed /b\nchanged /a\nput /c x\npending\nput /a x\npending\n",
+            "1 ok\n2 ok\n3 ok\n4 pending 2\nchanged /a\nchanged /b\n5 ok\n6 pending 1\nchanged /b\n",
+            18,
+        ),
+        // a deletion takes the document away
+        (
+            "put /a fox\nquery fox\ndeleted /a\nquery fox\npending",
+            "1 ok\n2 hits 1 at 6\n/a\n3 ok\n4 hits 0 at 13\n5 pending 0\n",
+            16,
+        ),
+    ];
+    for (lines, printed, events) in rows {
+        let session = over_memory(rt.alloc(), lines)?;
+        assert_eq!(rt; session.status, Status::Done, "{lines:?}");
+        assert_eq!(rt; session.sink.bytes(), printed.as_bytes(), "{lines:?}");
+        assert_eq!(rt; session.journal.events().len(), events, "{lines:?}");
+    }
+    Ok(())
+}
+
+#[test]
+fn other_requests_are_answered(rt: HostRuntime) -> Result<(), Fail> {
+    let rows = [
+        ("wait\n", "1 done\n"),
+        ("hello\nwait\nquit", "1 bad\n2 done\n3 bye\n"),
+        // a noise word is kept nowhere
+        ("put /a the fox\nquery the\n", "1 ok\n2 hits 0 at 6\n"),
+        (
+            "changed /\nchanged /a//b\nchanged /a/../b\n",
+            "1 bad\n2 bad\n3 bad\n",
+        ),
+        ("wait \nquit now\npending x\n", "1 bad\n2 bad\n3 bad\n"),
+    ];
+    for (lines, printed) in rows {
+        let session = over_memory(rt.alloc(), lines)?;
+        assert_eq!(rt; session.status, Status::Done, "{lines:?}");
+        assert_eq!(rt; session.sink.bytes(), printed.as_bytes(), "{lines:?}");
+    }
+    Ok(())
+}
+
+#[test]
+fn paths_end_at_their_limit(rt: HostRuntime) -> Result<(), Fail> {
+    let alloc = rt.alloc();
+    for (letters, printed) in [(1_023, "1 ok\n"), (1_024, "1 bad\n")] {
+        let mut line = String::from_str(alloc, "changed /")?;
+        for _ in 0..letters {
+            line.push('a')?;
+        }
+        let session = over_memory(alloc, line.as_str())?;
+        assert_eq!(rt; session.sink.bytes(), printed.as_bytes(), "{letters}");
+    }
+    Ok(())
+}
+
+#[test]
+fn a_long_line_is_told(rt: HostRuntime) -> Result<(), Fail> {
+    let alloc = rt.alloc();
+    for (bytes, printed) in [(65_536, "1 bad\n2 done\n"), (65_537, "1 long\n2 done\n")] {
+        let mut line = String::new(alloc);
+        for _ in 0..bytes {
+            line.push('a')?;
+        }
+        line.push_str("\nwait\n")?;
+        let session = over_memory(alloc, line.as_str())?;
+        assert_eq!(rt; session.status, Status::Done, "{bytes}");
+        assert_eq!(rt; session.sink.bytes(), printed.as_bytes(), "{bytes}");
+    }
+    Ok(())
+}
+
+#[test]
 fn bytes_in_any_pieces_are_answered_alike(rt: HostRuntime) -> Result<(), Fail> {
     let alloc = rt.alloc();
-    let lines = "put /d/a.txt Red fox\r\nhello\nquery FOX";
+    let settings = Settings::standard(alloc)?;
     for most in [1, 3, 4096] {
-        let bytes = Text8::of(alloc, lines.as_bytes())?;
-        let source = Pieces {
-            bytes,
-            given: 0,
-            most,
-        };
+        let source = Pieces::of(alloc, "put /d/a.txt Red fox\r\nhello\nquery FOX", most)?;
         let sink = SureMemorySink::new(alloc, 4096, 4096)?;
-        let session = run_steps(alloc, &Settings::standard(), source, sink);
+        let session = run_steps(alloc, &settings, source, sink);
         let printed = b"1 ok\n2 bad\n3 hits 1 at 8\n/d/a.txt\n".as_slice();
         assert_eq!(rt; session.status, Status::Done, "{most}");
         assert_eq!(rt; session.sink.bytes(), printed, "{most}");
@@ -93,102 +152,47 @@ fn bytes_in_any_pieces_are_answered_alike(rt: HostRuntime) -> Result<(), Fail> {
 }
 
 #[test]
-fn a_turn_has_its_steps(rt: HostRuntime) -> Result<(), Fail> {
-    let session = over_memory(rt.alloc(), "put /d/a.txt Red fox\nquery FOX\n")?;
-    let kinds = session
-        .journal
-        .events()
-        .iter()
-        .map(|event| match event.what {
+fn a_line_behind_quit_is_not_read(rt: HostRuntime) -> Result<(), Fail> {
+    let alloc = rt.alloc();
+    let source = Pieces::of(alloc, "quit\nput /d/a.txt red\n", 5)?;
+    let sink = SureMemorySink::new(alloc, 4096, 4096)?;
+    let session = run_steps(alloc, &Settings::standard(alloc)?, source, sink);
+    assert_eq!(rt; session.status, Status::Done);
+    assert_eq!(rt; session.sink.bytes(), b"1 bye\n".as_slice());
+    assert_eq!(rt; session.journal.events().len(), 2);
+    assert_eq!(rt; session.source.given, 5);
+    Ok(())
+}
+
+// The letters of the kinds of a session's events.
+fn kinds(alloc: Global, lines: &str) -> Result<String, Fail> {
+    let session = over_memory(alloc, lines)?;
+    let mut kinds = String::new(alloc);
+    for event in session.journal.events() {
+        kinds.push(match event.what {
             Happened::Asked { .. } => 'q',
             Happened::Noted { .. } => 'n',
             Happened::Put { .. } => 'p',
+            Happened::Erased { .. } => 'e',
+            Happened::Begun { .. } => 'b',
+            Happened::BatchDone { .. } => 'd',
             Happened::Opened { .. } => 'o',
             Happened::Answered { .. } => 'a',
             Happened::Said { .. } => 's',
-        });
-    assert!(rt; kinds.eq("qnpsqoa".chars()));
-    Ok(())
+        })?;
+    }
+    Ok(kinds)
 }
 
 #[test]
-fn other_commands_are_refused(rt: HostRuntime) -> Result<(), Fail> {
-    let alloc = rt.alloc();
-    let rows: [&[&str]; 5] = [
-        &["cisvc"],
-        &["cisvc", "steps"],
-        &["cisvc", "steps", "d"],
-        &["cisvc", "steps", "--retries=0", "/"],
-        &["cisvc", "steps", "/", "/"],
+fn a_turn_has_its_steps(rt: HostRuntime) -> Result<(), Fail> {
+    let rows = [
+        ("put /d/a.txt Red fox\nquery FOX\n", "qnpsqoa"),
+        ("changed /a\ndeleted /a\n", "qnsqnes"),
+        ("pending\nwait\nhello\nquit\n", "qsqsqsqs"),
     ];
-    for words in rows {
-        let source = SureMemorySource::new(alloc, Text8::of(alloc, b"hello\n")?);
-        let sink = SureMemorySink::new(alloc, 4096, 4096)?;
-        let session = run(alloc, &command(alloc, words)?, source, sink);
-        assert_eq!(rt; session.status, Status::Usage, "{words:?}");
-        assert_eq!(rt; session.status.exit_code(), 2);
-        assert!(rt; session.sink.bytes().is_empty());
-        assert!(rt; session.journal.events().is_empty());
-    }
-    Ok(())
-}
-
-#[test]
-fn a_full_journal_ends_the_session(rt: HostRuntime) -> Result<(), Fail> {
-    let alloc = rt.alloc();
-    let mut line = String::from_str(alloc, "put /d/a.txt ")?;
-    for _ in 0..59_999 {
-        line.push('a')?;
-    }
-    let source = SureMemorySource::new(alloc, Text8::of(alloc, line.as_bytes())?);
-    let sink = SureMemorySink::new(alloc, 4096, 4096)?;
-    let session = run_steps(alloc, &Settings { journal: 65_536 }, source, sink);
-    let full = Status::JournalFull {
-        used: 60_167,
-        more: 60_220,
-    };
-    assert_eq!(rt; session.status, full);
-    assert_eq!(rt; session.status.exit_code(), 8);
-    assert!(rt; session.sink.bytes().is_empty());
-    assert_eq!(rt; session.journal.events().len(), 2);
-    Ok(())
-}
-
-#[test]
-fn failing_ends_end_the_session(rt: HostRuntime) -> Result<(), Fail> {
-    let alloc = rt.alloc();
-    let words = command(alloc, &["cisvc", "steps", "/"])?;
-
-    // the sink takes three bytes, and then fails
-    let source = SureMemorySource::new(alloc, Text8::of(alloc, b"put /d/a.txt red\n")?);
-    let sink = MemorySink::new(alloc, 3, vec![in alloc; 1]?, 4096)?;
-    let session = run(alloc, &words, source, sink);
-    assert_eq!(rt; session.status, Status::WriteFault);
-    assert_eq!(rt; session.sink.bytes(), b"1 o".as_slice());
-    assert_eq!(rt; session.journal.events().len(), 4);
-
-    // the source fails at its first call, and at its second
-    for (fails, printed) in [(0, ""), (1, "1 bad\n")] {
-        let bytes = Text8::of(alloc, b"hello\n")?;
-        let source = MemorySource::new(alloc, bytes, vec![in alloc; fails]?);
-        let sink = SureMemorySink::new(alloc, 4096, 4096)?;
-        let session = run(alloc, &words, source, sink);
-        assert_eq!(rt; session.status, Status::ReadFault);
-        assert_eq!(rt; session.sink.bytes(), printed.as_bytes());
-    }
-    Ok(())
-}
-
-#[test]
-fn a_long_line_ends_the_session(rt: HostRuntime) -> Result<(), Fail> {
-    let alloc = rt.alloc();
-    for (bytes, status) in [(65_536, Status::Done), (65_537, Status::EndlessLine)] {
-        let mut line = String::new(alloc);
-        for _ in 0..bytes {
-            line.push('a')?;
-        }
-        let session = over_memory(alloc, line.as_str())?;
-        assert_eq!(rt; session.status, status, "{bytes}");
+    for (lines, wanted) in rows {
+        assert_eq!(rt; kinds(rt.alloc(), lines)?.as_str(), wanted, "{lines:?}");
     }
     Ok(())
 }

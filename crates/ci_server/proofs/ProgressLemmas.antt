@@ -1,48 +1,43 @@
--- A session goes on, line by line.
-use Rattle.std.proofs.Common.{arith, ◌≡◌, ◌∙◌, ◌+◌, ℕ, Bool, true, false, List, [], ◌∷◌, ◌++◌, Option, Some, None, length, map, flat_map, inr, refl, ap, sym, append_assoc, append-nil}
+-- A session goes on, line by line, until it ends.
+use Rattle.std.proofs.Common.{arith, ◌≡◌, ◌∙◌, ◌+◌, ◌-◌, ℕ, Bool, true, false, List, [], ◌∷◌, ◌++◌, ◌⊎◌, Option, Some, None, length, map, flat_map, inl, inr, ⊎_elim, refl, ap, sym, subst, append_assoc, append-nil}
 use Rattle.std.specs.List.{AllByRecursion}
-use Rattle.std.proofs.lemmas.List.{map-append}
+use Rattle.std.proofs.lemmas.List.{length_push, map-append}
 use Rattle.std.proofs.lemmas.Grind.{flat_map-append}
-use Rattle.ci_io.specs.Lines.{without_return, HasNoFeed}
-use Rattle.ci_io.specs.Reading.{Reading, TakesLine, TakesFed, ahead}
+use Rattle.ci_io.specs.Lines.{HasNoFeed}
+use Rattle.ci_io.specs.Reading.{Reading, ahead}
+use Rattle.ci_journal.specs.declared.event.Event.{Event}
+use Rattle.ci_journal.specs.declared.event.Happened.TheVariants.{Asked}
 use Rattle.ci_journal.specs.declared.request.Request.{Request}
-use Rattle.ci_journal.specs.Folds.{asked}
-use Rattle.ci_journal.specs.Requests.{bytes_request}
+use Rattle.ci_journal.specs.declared.request.Request.TheVariants as asking
+use Rattle.ci_journal.specs.Folds.{asked, last_of}
+use Rattle.ci_journal.proofs.FoldsLemmas.{slice_get-push}
 use Rattle.ci_core.specs.declared.core_fault.CoreFault.{CoreFault}
-use Rattle.ci_core.specs.declared.core_fault.CoreFault.TheVariants as core
+use Rattle.ci_core.specs.declared.core_fault.CoreFault.TheVariants as fault
+use Rattle.ci_core.specs.Changes.{event}
 use Rattle.ci_core.specs.Core.{Core}
-use Rattle.ci_server.specs.Progress.{Reads, Feeds, requests, line_request, with_feed, Progress, ServesLine, StopsLine, StopsAt}
-use Rattle.ci_server.specs.Status.{status_of_core}
+use Rattle.ci_server.specs.declared.status.Status.{Status}
+use Rattle.ci_server.specs.declared.status.Status.TheVariants.{Done, Usage, ReadFault, WriteFault, JournalFull, TooManyDocuments, OutOfMemory, EndlessLine}
+use Rattle.ci_server.specs.Progress.{Ends, FindsEnd, FitsLine, FitsSession, Progress, ServesLine, StopsAt}
+use Rattle.ci_server.specs.Requests.{Reads, Feeds, is_quit, requests, requests_behind, line_request, with_feed}
+use Rattle.ci_server.specs.Served.{IsBetween}
+use Rattle.ci_server.specs.Session.{AsksFirst}
+use Rattle.ci_server.specs.Stops.{StopsIn}
+use Rattle.ci_server.specs.Turns.{IsTurnFront, Turns}
 use Rattle.ci_server.specs.Turns.Turns.{None as no_turns, Turn}
-use Rattle.ci_server.proofs.ServedLemmas.{AddsAll-none, AddsAll-append}
+use Rattle.ci_server.proofs.StepLemmas.{Remains-refl, Remains-trans}
+use Rattle.ci_server.proofs.StepsLemmas.{asked-append}
+use Rattle.ci_server.proofs.StopLemmas.{StopsIn-map}
+use Rattle.ci_server.proofs.TurnLemmas.{asked-steps}
 
--- the first line's request is the first request
-pub Reads-line : (old new : Option (List ℕ)) (text : List ℕ) → TakesLine old new text → Reads old new (bytes_request text ∷ [])
-Reads-line None new text takes = tt
-Reads-line (Some all) None text takes = absurd takes
-Reads-line (Some all) (Some rest) text takes =
-    ap (λ ls. map bytes_request (map without_return ls)) takes.3.first ∙ ap (λ t. bytes_request t ∷ requests rest) (sym takes.2)
-
-pub Reads-none : (told : Option (List ℕ)) → Reads told told []
+Reads-none : (told : Option (List ℕ)) → Reads told told [] false
 Reads-none None = tt
 Reads-none (Some all) = refl
 
-pub Reads-append : (a b c : Option (List ℕ)) (xs ys : List Request) → Reads a b xs → Reads b c ys → Reads a c (xs ++ ys)
-Reads-append None b c xs ys one other = tt
-Reads-append (Some all) None c xs ys one other = absurd one
-Reads-append (Some all) (Some mid) None xs ys one other = absurd other
-Reads-append (Some all) (Some mid) (Some rest) xs ys one other = one ∙ ap (λ rs. xs ++ rs) other ∙ sym (append_assoc xs ys (requests rest))
-
--- a line whose line feed was taken
-pub Feeds-line : (old new : Option (List ℕ)) (text : List ℕ) → TakesFed old new text → Feeds old new (bytes_request text ∷ [])
-Feeds-line None new text takes = tt
-Feeds-line (Some all) None text takes = absurd takes
-Feeds-line (Some all) (Some rest) text takes = record {
-  raws = takes.0 ∷ [];
-  whole = takes.3 ∙ sym (ap (λ bs. bs ++ rest) (append-nil (with_feed takes.0)) ∙ append_assoc takes.0 (10 ∷ []) rest);
-  each = (takes.2, tt);
-  requests_are = ap (λ t. bytes_request t ∷ []) takes.1;
-}
+Reads-append : (a b c : Option (List ℕ)) (xs ys : List Request) (quit : Bool) → Reads a b xs false → Reads b c ys quit → Reads a c (xs ++ ys) quit
+Reads-append None b c xs ys quit one other = tt
+Reads-append (Some all) None c xs ys quit one other = absurd one
+Reads-append (Some all) (Some mid) None xs ys quit one other = absurd other
+Reads-append (Some all) (Some mid) (Some rest) xs ys quit one other = one ∙ ap (λ rs. xs ++ rs) other ∙ sym (append_assoc xs ys (requests_behind quit rest))
 
 Feeds-none : (told : Option (List ℕ)) → Feeds told told []
 Feeds-none None = tt
@@ -52,7 +47,7 @@ All-append : (P : List ℕ → Type 0) (xs ys : List (List ℕ)) → AllByRecurs
 All-append P [] ys one other = other
 All-append P (x ∷ xs) ys one other = (one.0, All-append P xs ys one.1 other)
 
-pub Feeds-append : (a b c : Option (List ℕ)) (xs ys : List Request) → Feeds a b xs → Feeds b c ys → Feeds a c (xs ++ ys)
+Feeds-append : (a b c : Option (List ℕ)) (xs ys : List Request) → Feeds a b xs → Feeds b c ys → Feeds a c (xs ++ ys)
 Feeds-append None b c xs ys one other = tt
 Feeds-append (Some all) None c xs ys one other = absurd one
 Feeds-append (Some all) (Some mid) None xs ys one other = absurd other
@@ -69,35 +64,132 @@ not_ended : (before now : Bool) → (before ≡ true → now ≡ true) → now �
 not_ended true now stays e = absurd (let t = stays refl in cc)
 not_ended false now stays e = refl
 
-pub Progress-none : (first : Reading) (start : Core) → start.events ≡ [] → Progress first start first start
-Progress-none first start fresh = record {
-  events = [];
+only_quit : (request : Request) → is_quit request ≡ true → request ≡ asking.Quit
+only_quit asking.Quit is = refl
+only_quit (asking.Changed path) is = absurd (cc)
+only_quit (asking.Deleted path) is = absurd (cc)
+only_quit (asking.Put path text) is = absurd (cc)
+only_quit (asking.Query text) is = absurd (cc)
+only_quit asking.Pending is = absurd (cc)
+only_quit asking.Wait is = absurd (cc)
+only_quit asking.Bad is = absurd (cc)
+only_quit asking.Long is = absurd (cc)
+
+last_of-push : (xs : List Request) (x : Request) → last_of (xs ++ x ∷ []) ≡ Some x
+last_of-push xs x = let last : length (xs ++ x ∷ []) - 1 ≡ length xs = omega (arith, length_push xs x) in rw last (slice_get-push xs x)
+
+pub Progress-none : (first : Reading) (start : Core) → start.sheet.events ≡ [] → IsBetween start → Progress first start first start false
+Progress-none first start fresh between = record {
   served = [];
-  turns = no_turns;
-  adds = AddsAll-none start;
-  within = rw fresh (omega arith);
-  all_opened = rw fresh;
+  turns = subst (λ es. Turns es []) (sym fresh) no_turns;
+  remains = Remains-refl start;
+  between = between;
   reads = Reads-none (ahead first);
   feeds = λ _. Feeds-none (ahead first);
+  at_end = λ never. absurd (cc);
+  last = λ never. absurd (cc);
+  goes_on = λ _ never. absurd (let none : None ≡ Some asking.Quit = never in cc);
   faults = refl;
 }
 
-pub Progress-line : (first : Reading) (start : Core) (before : Reading) (mid : Core) (now : Reading) (core : Core) → Progress first start before mid → ServesLine before now mid core → Progress first start now core
-Progress-line first start before mid now core progress line = record {
-  events = progress.events ++ line.serves.events;
-  served = progress.served ++ line.request ∷ [];
-  turns = Turn progress.events progress.served (length (asked mid.events) + 1) line.request line.serves.events progress.turns line.serves.turn;
-  adds = AddsAll-append start mid core progress.events line.serves.events progress.adds line.serves.adds;
-  within = line.serves.within;
-  all_opened = line.serves.all_opened;
-  reads = Reads-append (ahead first) (ahead before) (ahead now) progress.served (line.request ∷ []) progress.reads line.reads;
-  feeds = λ open_now. Feeds-append (ahead first) (ahead before) (ahead now) progress.served (line.request ∷ [])
-      (progress.feeds (not_ended before.ended now.ended line.stays_ended open_now)) (line.feeds open_now);
-  faults = line.faults ∙ progress.faults;
+pub Progress-line : (first : Reading) (start : Core) (before : Reading) (mid : Core) (now : Reading) (core : Core) (quit : Bool) → Progress first start before mid false → ServesLine before now mid core quit → Progress first start now core quit
+Progress-line first start before mid now core quit progress served_line = record {
+  served = progress.served ++ served_line.request ∷ [];
+  turns = subst (λ es. Turns es (progress.served ++ served_line.request ∷ [])) (sym served_line.serves.events_are)
+      (Turn mid.sheet.events progress.served (length (asked mid.sheet.events) + 1) served_line.request served_line.serves.events progress.turns served_line.serves.turn);
+  remains = Remains-trans start mid core progress.remains served_line.serves.remains;
+  between = served_line.serves.between;
+  reads = Reads-append (ahead first) (ahead before) (ahead now) progress.served (served_line.request ∷ []) quit progress.reads served_line.reads;
+  feeds = λ open_now. Feeds-append (ahead first) (ahead before) (ahead now) progress.served (served_line.request ∷ [])
+      (progress.feeds (not_ended before.ended now.ended served_line.stays_ended open_now)) (served_line.feeds open_now);
+  at_end = λ _. served_line.at_end;
+  last = λ is. last_of-push progress.served served_line.request ∙ ap Some (only_quit served_line.request (served_line.quits ∙ is));
+  goes_on = λ is quits. absurd (
+      let both : Some served_line.request ≡ Some asking.Quit = sym (last_of-push progress.served served_line.request) ∙ quits in
+      let same : served_line.request ≡ asking.Quit = cc in
+      let yes : is_quit served_line.request ≡ true = ap is_quit same in
+      let no : is_quit served_line.request ≡ false = served_line.quits ∙ is in
+      cc);
+  faults = served_line.faults ∙ progress.faults;
 }
 
--- a line whose turn was cut off ends the session with the status of its refusal
-pub StopsAt-of_core : (before now : Reading) (old new : Core) (fault : CoreFault) → StopsLine before now old new fault → StopsAt before now old new (status_of_core fault)
-StopsAt-of_core before now old new (core.JournalFull used more) line = line
-StopsAt-of_core before now old new core.OutOfMemory line = inr line
-StopsAt-of_core before now old new core.WriteFault line = line
+-- whole turns ask just their requests
+pub asked-turns : (events : List Event) (served : List Request) → Turns events served → asked events ≡ served
+asked-turns _ _ no_turns = refl
+asked-turns _ _ (Turn journal served id request events turns turn) =
+    asked-append journal events ∙ ap (λ rs. rs ++ asked events) (asked-turns journal served turns) ∙ ap (λ rs. served ++ rs) one
+  where
+    one : asked events ≡ request ∷ []
+    one = ap asked turn.events_are ∙ ap (λ rs. request ∷ rs) (asked-steps (journal ++ event 0 (Asked id request) ∷ []) id request turn.steps turn.made)
+
+-- whole turns of the lines that were read
+pub FitsSession-whole : (all left : Option (List ℕ)) (quit : Bool) (journal : List Event) (served : List Request) → Turns journal served → Reads all left served quit → FitsSession all journal
+FitsSession-whole all left quit journal served turns reads = record {
+  turns = record { whole = journal; turns = (served, turns); front = []; events = sym (append-nil journal); cut = inl refl };
+  lines = by all left reads;
+}
+  where
+    by : (all left : Option (List ℕ)) → Reads all left served quit → AsksFirst all journal
+    by None left reads = tt
+    by (Some all) None reads = absurd reads
+    by (Some all) (Some rest) reads = (requests_behind quit rest, reads ∙ ap (λ rs. rs ++ requests_behind quit rest) (sym (asked-turns journal served turns)))
+
+none_front : (xs ys : List Request) → xs ++ ys ≡ [] → xs ≡ []
+none_front [] ys e = refl
+none_front (x ∷ xs) ys e = absurd (cc)
+
+-- the first events of a turn ask its request, or nothing yet
+asked-front : (journal : List Event) (id : ℕ) (request : Request) (front : List Event) → IsTurnFront journal id request front → (asked front ≡ []) ⊎ (asked front ≡ request ∷ [])
+asked-front journal id request front fits =
+    ⊎_elim (λ none. inl (ap asked none))
+    (λ begun. inr (ap asked begun.2 ∙ ap (λ rs. request ∷ rs)
+    (⊎_elim (λ none. ap asked none)
+    (λ made. none_front (asked begun.0) (asked begun.1.rest) (sym (asked-append begun.0 begun.1.rest) ∙ asked-steps (journal ++ event 0 (Asked id request) ∷ []) id request (begun.0 ++ begun.1.rest) made)) begun.1.made))) fits
+
+-- and behind them the first events of the next line's turn
+FitsSession-line : (all left : Option (List ℕ)) (before : List Event) (served : List Request) → Turns before served → Reads all left served false → (journal : List Event) → FitsLine left before journal → FitsSession all journal
+FitsSession-line all left before served turns reads journal fits =
+    ⊎_elim (λ same. subst (FitsSession all) (sym same) (FitsSession-whole all left false before served turns reads))
+    (λ begun. let id = length (asked before) + 1 in
+    record {
+      turns = record { whole = before; turns = (served, turns); front = begun.3.0; events = begun.3.2; cut = inr (id, begun.0, begun.3.1) };
+      lines = by all left begun.1 begun.0 begun.3.0 reads begun.2
+          (ap asked begun.3.2 ∙ asked-append before begun.3.0 ∙ ap (λ rs. rs ++ asked begun.3.0) (asked-turns before served turns)) (asked-front before id begun.0 begun.3.0 begun.3.1);
+    }) fits
+  where
+    by : (all left rest : Option (List ℕ)) (next : Request) (front : List Event) → Reads all left served false → Reads left rest (next ∷ []) (is_quit next) → asked journal ≡ served ++ asked front
+        → (asked front ≡ []) ⊎ (asked front ≡ next ∷ []) → AsksFirst all journal
+    by None left rest next front reads line asks either = tt
+    by (Some all) None rest next front reads line asks either = absurd reads
+    by (Some all) (Some mid) None next front reads line asks either = absurd line
+    by (Some all) (Some mid) (Some rest) next front reads line asks either =
+        ⊎_elim (λ none. (requests mid, reads ∙ ap (λ rs. rs ++ requests mid) (sym (asks ∙ ap (λ rs. served ++ rs) none ∙ append-nil served))))
+        (λ one. (
+          requests_behind (is_quit next) rest,
+          reads ∙ ap (λ rs. served ++ rs) line ∙ sym (append_assoc served (next ∷ []) (requests_behind (is_quit next) rest))
+              ∙ ap (λ rs. rs ++ requests_behind (is_quit next) rest) (sym (asks ∙ ap (λ rs. served ++ rs) one)),
+        )) either
+
+in_session : (first : Reading) (start : Core) (before : Reading) (mid core : Core) (refusal : CoreFault) → Progress first start before mid false → StopsIn (FitsLine (ahead before) mid.sheet.events) mid core refusal
+    → StopsIn (FitsSession (ahead first)) start core refusal
+in_session first start before mid core refusal progress stops =
+    StopsIn-map (FitsLine (ahead before) mid.sheet.events) (FitsSession (ahead first))
+    (FitsSession-line (ahead first) (ahead before) mid.sheet.events progress.served progress.turns progress.reads) start mid core refusal progress.remains stops
+
+-- the source had ended behind the last line
+pub Ends-over : (first : Reading) (start : Core) (before now : Reading) (mid core : Core) → Progress first start before mid false → FindsEnd before now mid core → Ends first start now core Done
+Ends-over first start before now mid core progress found =
+    inr (record { before = before; progress = subst (λ (c : Core). Progress first start before c false) (sym found.untouched) progress; over = found.over })
+
+-- a line was not read or not served
+pub Ends-stop : (first : Reading) (start : Core) (before now : Reading) (mid core : Core) (status : Status) → Progress first start before mid false → StopsAt before now mid core status → Ends first start now core status
+Ends-stop first start before now mid core Done progress stops = absurd stops
+Ends-stop first start before now mid core Usage progress stops = absurd stops
+Ends-stop first start before now mid core ReadFault progress stops =
+    (before, record { progress = subst (λ (c : Core). Progress first start before c false) (sym stops.0) progress; unread = stops.1 }, stops.2)
+Ends-stop first start before now mid core EndlessLine progress stops =
+    (before, record { progress = subst (λ (c : Core). Progress first start before c false) (sym stops.0) progress; unread = stops.1 }, stops.2)
+Ends-stop first start before now mid core WriteFault progress stops = in_session first start before mid core fault.WriteFault progress stops
+Ends-stop first start before now mid core (JournalFull used more) progress stops = in_session first start before mid core (fault.JournalFull used more) progress stops
+Ends-stop first start before now mid core TooManyDocuments progress stops = in_session first start before mid core fault.TooManyDocuments progress stops
+Ends-stop first start before now mid core OutOfMemory progress stops = in_session first start before mid core fault.OutOfMemory progress stops

@@ -1,107 +1,167 @@
--- What the end of a session says of its journal and its sink, clause by clause.
-use Rattle.std.proofs.Common.{◌≡◌, ◌≢◌, ◌∙◌, ◌<◌, ◌+◌, ℕ, [], ◌∷◌, ◌++◌, take, inl, ⊎_elim, refl, ap, sym, subst, append-nil}
-use Rattle.std.specs.Io.KnownBytes.{Appends}
-use Rattle.ci_io.specs.Reading.{Reading}
-use Rattle.ci_journal.specs.Printed.{lines_of, printed}
+-- What the end of a session says of its journal and its sink.
+use Rattle.std.proofs.Common.{arith, ◌≡◌, ◌≢◌, ◌∙◌, ◌<◌, ◌≤◌, ◌+◌, ℕ, Bool, List, [], ◌∷◌, ◌++◌, length, None, ⊎_elim, false, true, refl, ap, sym, subst}
+use Rattle.ci_io.specs.Reading.{Reading, ahead}
+use Rattle.ci_journal.specs.declared.event.Event.{Event}
+use Rattle.ci_journal.specs.declared.event.Happened.{Happened}
+use Rattle.ci_journal.specs.declared.event.Happened.TheVariants.{Asked, Noted, Put, Erased, Begun, BatchDone, Opened, Answered, Said}
+use Rattle.ci_journal.specs.Bytes.{journal_bytes}
+use Rattle.ci_journal.specs.Completions.{is_numbered, numbered}
+use Rattle.ci_journal.specs.Folds.{notice_in}
+use Rattle.ci_journal.specs.Printed.{lines_of}
+use Rattle.ci_journal.specs.Step.{May}
+use Rattle.ci_journal.specs.Terms.{Terms}
 use Rattle.ci_core.specs.declared.core_fault.CoreFault.{CoreFault}
 use Rattle.ci_core.specs.declared.core_fault.CoreFault.TheVariants as refusal
 use Rattle.ci_core.specs.Core.{Core}
+use Rattle.ci_core.specs.Fixed.{Fixed, HasFixed, PrintsAfter, PrintsAll}
 use Rattle.ci_server.specs.declared.status.Status.{Status}
-use Rattle.ci_server.specs.declared.status.Status.TheVariants.{Done, Usage, ReadFault, WriteFault, JournalFull, OutOfMemory, EndlessLine}
-use Rattle.ci_server.specs.Progress.{Ends, Progress}
-use Rattle.ci_core.specs.Changes.{Stays}
-use Rattle.ci_journal.specs.Bytes.{journal_bytes}
-use Rattle.ci_journal.specs.Step.{May}
-use Rattle.ci_server.specs.Session.{InTurns, IsWhole, PrintsCut, IsFullAt}
-use Rattle.ci_server.specs.Turns.{Turns}
-use Rattle.ci_server.proofs.ServedLemmas.{Appends-append}
-use Rattle.ci_server.proofs.CutLemmas.{AddsAll-stays, journal_is, IsCut, IsCut-stops, cut-front, cut-on, last_is}
+use Rattle.ci_server.specs.declared.status.Status.TheVariants.{Done, Usage, ReadFault, WriteFault, JournalFull, TooManyDocuments, OutOfMemory, EndlessLine}
+use Rattle.ci_server.specs.Progress.{Ends, FitsSession, Progress}
+use Rattle.ci_server.specs.Session.{EndsBetween, InTurns, IsCrowdedAt, IsFullAt, IsWhole, PrintsCut}
+use Rattle.ci_server.specs.Stops.{StopsIn}
+use Rattle.ci_server.proofs.ProgressLemmas.{FitsSession-whole}
+use Rattle.ci_server.proofs.StepLemmas.{numbered-push}
+use Rattle.ci_server.proofs.StopLemmas.{Fits-stops}
 
-InTurns-cut : (start core : Core) (fault : CoreFault) → start.events ≡ [] → IsCut start core fault → InTurns core.events
-InTurns-cut start core (refusal.JournalFull used more) fresh cut = cut-front start core _ fresh cut core.events (cut.halts.stays.events ∙ last_is start core _ fresh cut)
-InTurns-cut start core refusal.OutOfMemory fresh cut = cut-front start core _ fresh cut core.events (cut.halts.events ∙ last_is start core _ fresh cut)
-InTurns-cut start core refusal.WriteFault fresh cut = cut-on start core _ fresh cut core.events (cut.halts.events ∙ ap (λ es. es ++ cut.refused ∷ []) (last_is start core _ fresh cut))
+-- what prints lines is no notice
+no_notice : (what : Happened) → 0 < length (lines_of what) → notice_in what ≡ None
+no_notice (Asked id request) some = refl
+no_notice (Noted notice) some = absurd (omega arith)
+no_notice (Put path seq transcript) some = refl
+no_notice (Erased path seq) some = refl
+no_notice (Begun batch) some = refl
+no_notice (BatchDone number outcomes) some = refl
+no_notice (Opened id) some = refl
+no_notice (Answered id at paths) some = refl
+no_notice (Said id reply) some = refl
 
-InTurns-whole : (first : Reading) (start : Core) (before : Reading) (mid core : Core) → start.events ≡ [] → Progress first start before mid → core ≡ mid → InTurns core.events
-InTurns-whole first start before mid core fresh progress same = record {
-  whole = progress.events;
-  turns = (progress.served, progress.turns);
-  front = [];
-  events = ap (λ (c : Core). c.events) same ∙ journal_is start mid progress.events fresh progress.adds ∙ sym (append-nil progress.events);
-  cut = inl refl;
-}
+-- no more paths are noted than were when the step was refused
+same_numbered : (Fits : List Event → Type 0) (start core : Core) (fault : CoreFault) (stops : StopsIn Fits start core fault) → numbered core.sheet.events ≡ numbered stops.mid.sheet.events
+same_numbered Fits start core refusal.TooManyDocuments stops = ap numbered stops.halts.3
+same_numbered Fits start core (refusal.JournalFull used more) stops = ap numbered stops.halts.2.stays.events
+same_numbered Fits start core refusal.OutOfMemory stops = ap numbered stops.halts
+same_numbered Fits start core refusal.WriteFault stops =
+    ap numbered stops.halts.3 ∙ numbered-push stops.mid.sheet.events stops.halts.0 ∙ rw (no_notice stops.halts.0.what stops.halts.2) refl
+same_numbered Fits start core refusal.Ended stops = absurd stops.halts
 
-pub InTurns-ends : (first : Reading) (start : Core) (now : Reading) (core : Core) (status : Status) → start.events ≡ [] → Ends first start now core status → InTurns core.events
-InTurns-ends first start now core Done fresh ends = InTurns-whole first start ends.before core core fresh ends.progress refl
-InTurns-ends first start now core Usage fresh ends = absurd ends
-InTurns-ends first start now core ReadFault fresh ends = InTurns-whole first start ends.before ends.mid core fresh ends.progress ends.stops.0.untouched
-InTurns-ends first start now core EndlessLine fresh ends = InTurns-whole first start ends.before ends.mid core fresh ends.progress ends.stops.0.untouched
-InTurns-ends first start now core WriteFault fresh ends = InTurns-cut start core _ fresh (IsCut-stops first start ends.before now ends.mid core _ ends.progress ends.stops)
-InTurns-ends first start now core (JournalFull used more) fresh ends = InTurns-cut start core _ fresh (IsCut-stops first start ends.before now ends.mid core _ ends.progress ends.stops)
-InTurns-ends first start now core OutOfMemory fresh ends =
-    ⊎_elim (λ unread. InTurns-whole first start ends.before ends.mid core fresh ends.progress unread.0.untouched)
-    (λ line. InTurns-cut start core _ fresh (IsCut-stops first start ends.before now ends.mid core _ ends.progress line)) ends.stops
+module _ (first : Reading) (start : Core) (now : Reading) (core : Core) (fixed : Fixed) (has : HasFixed fixed start) where
+  -- ---- a session that ended between two turns
+  module _ (at : Reading) (quit : Bool) (progress : Progress first start at core quit) where
+    fits-whole : FitsSession (ahead first) core.sheet.events
+    fits-whole = FitsSession-whole (ahead first) (ahead at) quit core.sheet.events progress.served progress.turns progress.reads
 
-IsWhole-progress : (first : Reading) (start : Core) (before : Reading) (mid core : Core) → start.events ≡ [] → Progress first start before mid → core ≡ mid → IsWhole core.events
-IsWhole-progress first start before mid core fresh progress same =
-    (progress.served, subst (λ es. Turns es progress.served) (sym (ap (λ (c : Core). c.events) same ∙ journal_is start mid progress.events fresh progress.adds)) progress.turns)
+    whole-whole : IsWhole core.sheet.events
+    whole-whole = (progress.served, progress.turns)
 
--- where no step was refused the journal is whole turns
-pub IsWhole-done : (first : Reading) (start : Core) (now : Reading) (core : Core) → start.events ≡ [] → Ends first start now core Done → IsWhole core.events
-IsWhole-done first start now core fresh ends = IsWhole-progress first start ends.before core core fresh ends.progress refl
+    has-whole : HasFixed fixed core
+    has-whole = progress.remains.fixed fixed has
 
-pub IsWhole-read_fault : (first : Reading) (start : Core) (now : Reading) (core : Core) → start.events ≡ [] → Ends first start now core ReadFault → IsWhole core.events
-IsWhole-read_fault first start now core fresh ends = IsWhole-progress first start ends.before ends.mid core fresh ends.progress ends.stops.0.untouched
+    prints-whole : PrintsAll fixed core.sheet
+    prints-whole = subst (PrintsAfter fixed core.sheet) progress.between.sound.unrefused has-whole.prints
 
-pub IsWhole-endless : (first : Reading) (start : Core) (now : Reading) (core : Core) → start.events ≡ [] → Ends first start now core EndlessLine → IsWhole core.events
-IsWhole-endless first start now core fresh ends = IsWhole-progress first start ends.before ends.mid core fresh ends.progress ends.stops.0.untouched
+    bounded-whole : length (numbered core.sheet.events) ≤ fixed.most
+    bounded-whole = let sound = progress.between.sound in omega (arith, sound.room, ap length sound.numbered, has-whole.most)
 
--- the bytes written are the printed journal
-Appends-whole : (first : Reading) (start : Core) (before : Reading) (mid core : Core) → start.events ≡ [] → Progress first start before mid → core ≡ mid → Appends start.written core.written (printed core.events)
-Appends-whole first start before mid core fresh progress same =
-    subst (λ (c : Core). Appends start.written c.written (printed c.events)) (sym same)
-    (subst (λ es. Appends start.written mid.written (printed es)) (sym (journal_is start mid progress.events fresh progress.adds)) progress.adds.written)
+  -- ---- a session that ended in a turn
+  module _ (fault : CoreFault) (stops : StopsIn (FitsSession (ahead first)) start core fault) where
+    has-cut : HasFixed fixed core
+    has-cut = stops.fixed fixed has
 
-Appends-cut : (start core : Core) (fault : CoreFault) → start.events ≡ [] → (cut : IsCut start core fault) → Stays cut.last core → Appends start.written core.written (printed core.events)
-Appends-cut start core fault fresh cut stays =
-    let all = AddsAll-stays start cut.last core (cut.whole ++ cut.done) cut.adds stays in
-    subst (λ es. Appends start.written core.written (printed es)) (sym (journal_is start core (cut.whole ++ cut.done) fresh all)) all.written
+    most-cut : stops.mid.most ≡ fixed.most
+    most-cut = stops.remains.told.most ∙ has.most
 
-pub Appends-ends : (first : Reading) (start : Core) (now : Reading) (core : Core) (status : Status) → start.events ≡ [] → Ends first start now core status → status ≢ WriteFault → Appends start.written core.written (printed core.events)
-Appends-ends first start now core Done fresh ends other = Appends-whole first start ends.before core core fresh ends.progress refl
-Appends-ends first start now core Usage fresh ends other = absurd ends
-Appends-ends first start now core ReadFault fresh ends other = Appends-whole first start ends.before ends.mid core fresh ends.progress ends.stops.0.untouched
-Appends-ends first start now core EndlessLine fresh ends other = Appends-whole first start ends.before ends.mid core fresh ends.progress ends.stops.0.untouched
-Appends-ends first start now core WriteFault fresh ends other = absurd (other refl)
-Appends-ends first start now core (JournalFull used more) fresh ends other =
-    let cut = IsCut-stops first start ends.before now ends.mid core _ ends.progress ends.stops in Appends-cut start core _ fresh cut cut.halts.stays
-Appends-ends first start now core OutOfMemory fresh ends other =
-    ⊎_elim (λ unread. Appends-whole first start ends.before ends.mid core fresh ends.progress unread.0.untouched)
-    (λ line. let cut = IsCut-stops first start ends.before now ends.mid core refusal.OutOfMemory ends.progress line in Appends-cut start core _ fresh cut cut.halts) ends.stops
+    terms-cut : stops.mid.terms ≡ fixed.terms
+    terms-cut = stops.remains.told.terms ∙ has.terms
 
--- after a fault of the sink they lack bytes at the end
-pub PrintsCut-ends : (first : Reading) (start : Core) (now : Reading) (core : Core) → start.events ≡ [] → Ends first start now core WriteFault → PrintsCut start.written core.written core.events
-PrintsCut-ends first start now core fresh ends =
-    let cut = IsCut-stops first start ends.before now ends.mid core _ ends.progress ends.stops in
-    record {
-      front = cut.whole ++ cut.done;
-      last = cut.refused;
-      events = cut.halts.events ∙ ap (λ es. es ++ cut.refused ∷ []) (last_is start core _ fresh cut);
-      count = cut.halts.written.0;
-      short = cut.halts.written.1;
-      written = Appends-append start.written cut.last.written core.written (printed (cut.whole ++ cut.done)) (take cut.halts.written.0 (lines_of cut.refused.what)) cut.adds.written cut.halts.written.2;
-    }
+    bounded-cut : length (numbered core.sheet.events) ≤ fixed.most
+    bounded-cut = omega (arith, stops.sound.room, ap length stops.sound.numbered, ap length (same_numbered (FitsSession (ahead first)) start core fault stops), most-cut)
 
--- a full journal: the next event of the turn is above the bound
-pub IsFullAt-ends : (first : Reading) (start : Core) (now : Reading) (core : Core) (used more : ℕ) → start.events ≡ [] → Ends first start now core (JournalFull used more) → IsFullAt start.limit core.events used more
-IsFullAt-ends first start now core used more fresh ends =
-    let cut = IsCut-stops first start ends.before now ends.mid core _ ends.progress ends.stops in
-    let same : core.events ≡ cut.last.events = cut.halts.stays.events in
-    record {
-      event = cut.refused;
-      may = subst (λ es. May es cut.refused.by cut.refused.what) (sym same) cut.may;
-      in_turn = cut-on start core _ fresh cut (core.events ++ cut.refused ∷ []) (ap (λ es. es ++ cut.refused ∷ []) (same ∙ last_is start core _ fresh cut));
-      counted = cut.halts.counted ∙ ap journal_bytes (sym same);
-      wanted = cut.halts.wanted;
-      over = subst (λ n. n < used + more) cut.adds.limit cut.halts.over;
-    }
+  pub fits : (status : Status) → Ends first start now core status → FitsSession (ahead first) core.sheet.events
+  fits Done ends = ⊎_elim (λ progress. fits-whole now true progress) (λ over. fits-whole over.before false over.progress) ends
+  fits Usage ends = absurd ends
+  fits ReadFault ends = fits-whole ends.0 false ends.1.progress
+  fits EndlessLine ends = fits-whole ends.0 false ends.1.progress
+  fits WriteFault ends = Fits-stops (FitsSession (ahead first)) start core refusal.WriteFault ends
+  fits (JournalFull used more) ends = Fits-stops (FitsSession (ahead first)) start core (refusal.JournalFull used more) ends
+  fits TooManyDocuments ends = Fits-stops (FitsSession (ahead first)) start core refusal.TooManyDocuments ends
+  fits OutOfMemory ends = Fits-stops (FitsSession (ahead first)) start core refusal.OutOfMemory ends
+
+  pub has_now : (status : Status) → Ends first start now core status → HasFixed fixed core
+  has_now Done ends = ⊎_elim (λ progress. has-whole now true progress) (λ over. has-whole over.before false over.progress) ends
+  has_now Usage ends = absurd ends
+  has_now ReadFault ends = has-whole ends.0 false ends.1.progress
+  has_now EndlessLine ends = has-whole ends.0 false ends.1.progress
+  has_now WriteFault ends = has-cut refusal.WriteFault ends
+  has_now (JournalFull used more) ends = has-cut (refusal.JournalFull used more) ends
+  has_now TooManyDocuments ends = has-cut refusal.TooManyDocuments ends
+  has_now OutOfMemory ends = has-cut refusal.OutOfMemory ends
+
+  pub whole : (status : Status) → Ends first start now core status → EndsBetween status → IsWhole core.sheet.events
+  whole Done ends between = ⊎_elim (λ progress. whole-whole now true progress) (λ over. whole-whole over.before false over.progress) ends
+  whole ReadFault ends between = whole-whole ends.0 false ends.1.progress
+  whole EndlessLine ends between = whole-whole ends.0 false ends.1.progress
+  whole Usage ends between = absurd between
+  whole WriteFault ends between = absurd between
+  whole (JournalFull used more) ends between = absurd between
+  whole TooManyDocuments ends between = absurd between
+  whole OutOfMemory ends between = absurd between
+
+  pub all_printed : (status : Status) → Ends first start now core status → status ≢ WriteFault → PrintsAll fixed core.sheet
+  all_printed Done ends other = ⊎_elim (λ progress. prints-whole now true progress) (λ over. prints-whole over.before false over.progress) ends
+  all_printed Usage ends other = absurd ends
+  all_printed ReadFault ends other = prints-whole ends.0 false ends.1.progress
+  all_printed EndlessLine ends other = prints-whole ends.0 false ends.1.progress
+  all_printed WriteFault ends other = absurd (other refl)
+  all_printed (JournalFull used more) ends other = ends.prints fixed has
+  all_printed TooManyDocuments ends other = ends.prints fixed has
+  all_printed OutOfMemory ends other = ends.prints fixed has
+
+  pub bounded : (status : Status) → Ends first start now core status → length (numbered core.sheet.events) ≤ fixed.most
+  bounded Done ends = ⊎_elim (λ progress. bounded-whole now true progress) (λ over. bounded-whole over.before false over.progress) ends
+  bounded Usage ends = absurd ends
+  bounded ReadFault ends = bounded-whole ends.0 false ends.1.progress
+  bounded EndlessLine ends = bounded-whole ends.0 false ends.1.progress
+  bounded WriteFault ends = bounded-cut refusal.WriteFault ends
+  bounded (JournalFull used more) ends = bounded-cut (refusal.JournalFull used more) ends
+  bounded TooManyDocuments ends = bounded-cut refusal.TooManyDocuments ends
+  bounded OutOfMemory ends = bounded-cut refusal.OutOfMemory ends
+
+  -- after a fault of the sink bytes at the end lack
+  pub cut_off : Ends first start now core WriteFault → PrintsCut fixed.written core.sheet.written core.sheet.events
+  cut_off ends =
+      let cut = ends.prints fixed has in
+      record { front = cut.front; last = cut.last; events = cut.events; count = cut.count; short = cut.short; written = cut.written }
+
+  -- a full journal: the next event of the turn is above the bound
+  pub journal_full : (used more : ℕ) → Ends first start now core (JournalFull used more) → IsFullAt fixed.terms fixed.limit core.sheet.events used more
+  journal_full used more ends =
+      let event = ends.halts.0 in
+      let next = ends.halts.1 in
+      let full = ends.halts.2 in
+      let same : core.sheet.events ≡ ends.mid.sheet.events = full.stays.events in
+      record {
+        event = event;
+        may = subst (λ es. May fixed.terms es event.by event.what) (sym same) (subst (λ (t : Terms). May t ends.mid.sheet.events event.by event.what) (terms-cut (refusal.JournalFull used more) ends) next.may);
+        in_turn = subst (λ es. InTurns (es ++ event ∷ [])) (sym same) next.fits.turns;
+        counted = full.counted ∙ ap journal_bytes (sym same);
+        wanted = full.wanted;
+        over = subst (λ n. n < used + more) (ends.remains.limit ∙ has.limit) full.over;
+      }
+
+  -- too many documents: the next event of the turn notes one more
+  pub crowded : Ends first start now core TooManyDocuments → IsCrowdedAt fixed.terms fixed.most core.sheet.events
+  crowded ends =
+      let event = ends.halts.0 in
+      let next = ends.halts.1 in
+      let crowd = ends.halts.2 in
+      let same : core.sheet.events ≡ ends.mid.sheet.events = ends.halts.3 in
+      let paths : numbered core.sheet.events ≡ ends.mid.numbered = ap numbered same ∙ sym ends.sound.numbered in
+      record {
+        event = event;
+        may = subst (λ es. May fixed.terms es event.by event.what) (sym same) (subst (λ (t : Terms). May t ends.mid.sheet.events event.by event.what) (terms-cut refusal.TooManyDocuments ends) next.may);
+        in_turn = subst (λ es. InTurns (es ++ event ∷ [])) (sym same) next.fits.turns;
+        notice = crowd.notice;
+        notes = crowd.notes;
+        new_path = subst (λ ps. is_numbered ps crowd.notice.path ≡ false) (sym paths) crowd.new_path;
+        many = omega (arith, crowd.many, ap length paths, most-cut refusal.TooManyDocuments ends);
+      }

@@ -1,91 +1,73 @@
--- The steps of a put and of a bad line, as far as they come.
-use Rattle.std.proofs.Common.{◌≡◌, ◌∙◌, ℕ, ◌+◌, List, [], ◌∷◌, length, refl}
-use Rattle.ci_base.specs.declared.numbers.Seq.{Seq}
-use Rattle.ci_journal.specs.declared.event.Happened.TheVariants.{Put, Said}
-use Rattle.ci_journal.specs.declared.notice.What.TheVariants.{Changed}
-use Rattle.ci_journal.specs.declared.reply.Reply.TheVariants as reply
-use Rattle.ci_journal.specs.declared.request.Request.TheVariants as request
-use Rattle.ci_journal.specs.Folds.{notices, unopened}
+-- The steps of a request, as far as they come.
+use Rattle.std.proofs.Common.{arith, ◌≡◌, ◌∙◌, ℕ, ◌||◌, false, List, [], ◌∷◌, ◌++◌, length, inr, refl, ap, sym, subst, append-nil, append_assoc}
+use Rattle.std.proofs.lemmas.List.Elements.{filter_map-append}
+use Rattle.std.proofs.lemmas.List.Folds.{list_any-append}
+use Rattle.ci_journal.specs.declared.event.Event.{Event}
+use Rattle.ci_journal.specs.declared.request.Request.{Request}
+use Rattle.ci_journal.specs.Folds.{asked, request_in, replies_to, is_replied}
 use Rattle.ci_journal.specs.Step.{MaySay}
 use Rattle.ci_core.specs.declared.core_fault.CoreFault.{CoreFault}
-use Rattle.ci_core.specs.Changes.{Adds, Refuses, event, noted}
+use Rattle.ci_core.specs.declared.core_fault.CoreFault.TheVariants.{OutOfMemory}
 use Rattle.ci_core.specs.Core.{Core}
-use Rattle.ci_server.specs.Served.{Halts, ServesSteps, StopsSteps}
-use Rattle.ci_server.proofs.ServedLemmas.{AddsAll-none, AddsAll-one, AddsAll-cons, Halts-from_Refuses, MaySay-after, MayPut-noted, unopened-after}
+use Rattle.ci_core.specs.Fixed.{KeepsFixed}
+use Rattle.ci_core.specs.Refusals.{Refuses}
+use Rattle.ci_server.specs.Served.{FitsSteps, ServesSteps, StopsSteps}
+use Rattle.ci_server.specs.Stops.{IsSound, Remains}
+use Rattle.ci_server.specs.Turns.{AreSteps, AreFirst}
+use Rattle.ci_server.proofs.StepLemmas.{IsStep, Remains-refl, Remains-trans}
+use Rattle.ci_server.proofs.StopLemmas.{StopsIn-map, StopsIn-refused, StopsIn-starved}
 
-module _ (old : Core) (id : ℕ) (path text : List ℕ) where
-  pub put-stops_at_note : (new : Core) (fault : CoreFault) → Refuses old new (noted 0 path (length (notices old.events) + 1) Changed) fault → StopsSteps old new id (request.Put path text) fault
-  put-stops_at_note new fault refuses =
-      let seq : Seq = record { 0 = length (notices old.events) + 1 } in
-      record {
-        done = [];
-        refused = noted 0 path seq.0 Changed;
-        rest = event 0 (Put path seq text) ∷ event 0 (Said id reply.Ok) ∷ [];
-        made = (seq, refl);
-        mid = old;
-        adds = AddsAll-none old;
-        may = record { foreground = refl; next = refl };
-        halts = Halts-from_Refuses old new (noted 0 path seq.0 Changed) fault refuses;
-      }
+-- these steps were made, one after the other
+pub record IsAt (old now : Core) (steps : List Event) : Type 0 where
+  pub events : now.sheet.events ≡ old.sheet.events ++ steps
+  pub remains : Remains old now
+  pub sound : IsSound now
 
-  pub put-stops_at_put : (a new : Core) (seq : Seq) (fault : CoreFault) → Adds old a (noted 0 path seq.0 Changed) → Halts a new (event 0 (Put path seq text)) fault → StopsSteps old new id (request.Put path text) fault
-  put-stops_at_put a new seq fault notes halts = record {
-    done = noted 0 path seq.0 Changed ∷ [];
-    refused = event 0 (Put path seq text);
-    rest = event 0 (Said id reply.Ok) ∷ [];
-    made = (seq, refl);
-    mid = a;
-    adds = AddsAll-one old a (noted 0 path seq.0 Changed) notes;
-    may = MayPut-noted old a path seq notes;
-    halts = halts;
-  }
+pub IsAt-none : (old : Core) → IsSound old → IsAt old old []
+IsAt-none old sound = record { events = sym (append-nil old.sheet.events); remains = Remains-refl old; sound = sound }
 
-  pub put-may_say : (a b : Core) (seq : Seq) → Adds old a (noted 0 path seq.0 Changed) → Adds a b (event 0 (Put path seq text)) → MaySay old.events id → MaySay b.events id
-  put-may_say a b seq notes puts may =
-      MaySay-after a b (event 0 (Put path seq text)) id puts refl refl (MaySay-after old a (noted 0 path seq.0 Changed) id notes refl refl may)
-
-  pub put-stops_at_say : (a b new : Core) (seq : Seq) (fault : CoreFault) → Adds old a (noted 0 path seq.0 Changed) → Adds a b (event 0 (Put path seq text)) → MaySay old.events id →
-      Refuses b new (event 0 (Said id reply.Ok)) fault → StopsSteps old new id (request.Put path text) fault
-  put-stops_at_say a b new seq fault notes puts may refuses = record {
-    done = noted 0 path seq.0 Changed ∷ event 0 (Put path seq text) ∷ [];
-    refused = event 0 (Said id reply.Ok);
-    rest = [];
-    made = (seq, refl);
-    mid = b;
-    adds = AddsAll-cons old a b (noted 0 path seq.0 Changed) (event 0 (Put path seq text) ∷ []) notes (AddsAll-one a b (event 0 (Put path seq text)) puts);
-    may = put-may_say a b seq notes puts may;
-    halts = Halts-from_Refuses b new (event 0 (Said id reply.Ok)) fault refuses;
-  }
-
-  pub put-serves : (a b new : Core) (seq : Seq) → Adds old a (noted 0 path seq.0 Changed) → Adds a b (event 0 (Put path seq text)) → Adds b new (event 0 (Said id reply.Ok)) → unopened old.events ≡ [] →
-      ServesSteps old new id (request.Put path text)
-  put-serves a b new seq notes puts says none = record {
-    steps = noted 0 path seq.0 Changed ∷ event 0 (Put path seq text) ∷ event 0 (Said id reply.Ok) ∷ [];
-    made = (seq, refl);
-    adds = AddsAll-cons old a new (noted 0 path seq.0 Changed) (event 0 (Put path seq text) ∷ event 0 (Said id reply.Ok) ∷ []) notes
-        (AddsAll-cons a b new (event 0 (Put path seq text)) (event 0 (Said id reply.Ok) ∷ []) puts (AddsAll-one b new (event 0 (Said id reply.Ok)) says));
-    within = says.within;
-    all_opened = unopened-after b new (event 0 (Said id reply.Ok)) says refl refl ∙ unopened-after a b (event 0 (Put path seq text)) puts refl refl
-        ∙ unopened-after old a (noted 0 path seq.0 Changed) notes refl refl ∙ none;
-  }
-
-pub bad-serves : (old new : Core) (id : ℕ) → Adds old new (event 0 (Said id reply.Bad)) → unopened old.events ≡ [] → ServesSteps old new id request.Bad
-bad-serves old new id says none = record {
-  steps = event 0 (Said id reply.Bad) ∷ [];
-  made = refl;
-  adds = AddsAll-one old new (event 0 (Said id reply.Bad)) says;
-  within = says.within;
-  all_opened = unopened-after old new (event 0 (Said id reply.Bad)) says refl refl ∙ none;
+pub IsAt-step : (old a b : Core) (steps : List Event) (e : Event) → IsAt old a steps → IsStep a b e → IsAt old b (steps ++ e ∷ [])
+IsAt-step old a b steps e at step = record {
+  events = step.events ∙ ap (λ es. es ++ e ∷ []) at.events ∙ append_assoc old.sheet.events steps (e ∷ []);
+  remains = Remains-trans old a b at.remains step.remains;
+  sound = step.sound;
 }
 
-pub bad-stops : (old new : Core) (id : ℕ) (fault : CoreFault) → MaySay old.events id → Refuses old new (event 0 (Said id reply.Bad)) fault → StopsSteps old new id request.Bad fault
-bad-stops old new id fault may refuses = record {
-  done = [];
-  refused = event 0 (Said id reply.Bad);
-  rest = [];
-  made = refl;
-  mid = old;
-  adds = AddsAll-none old;
-  may = may;
-  halts = Halts-from_Refuses old new (event 0 (Said id reply.Bad)) fault refuses;
-}
+pub asked-append : (xs ys : List Event) → asked (xs ++ ys) ≡ asked xs ++ asked ys
+asked-append xs ys = filter_map-append (λ (e : Event). request_in e.what) xs ys
+
+pub is_replied-append : (xs ys : List Event) (id : ℕ) → is_replied (xs ++ ys) id ≡ (is_replied xs id || is_replied ys id)
+is_replied-append xs ys id = list_any-append (λ (e : Event). replies_to id e.what) xs ys
+
+-- behind steps that neither ask nor reply, a request may be replied to as before
+pub MaySay-at : (old now : Core) (steps : List Event) (id : ℕ) → IsAt old now steps → asked steps ≡ [] → is_replied steps id ≡ false → MaySay old.sheet.events id → MaySay now.sheet.events id
+MaySay-at old now steps id at none_asked none_replied may =
+    let same : asked now.sheet.events ≡ asked old.sheet.events = ap asked at.events ∙ asked-append old.sheet.events steps ∙ rw none_asked (append-nil _) in
+    record {
+      numbered = may.numbered;
+      asked_before = omega (arith, may.asked_before, ap length same);
+      unreplied = ap (λ es. is_replied es id) at.events ∙ is_replied-append old.sheet.events steps id ∙ rw (may.unreplied, none_replied) refl;
+    }
+
+module _ (old : Core) (id : ℕ) (request : Request) where
+  -- the next of the steps was refused
+  pub steps-stop : (now new : Core) (steps : List Event) (e : Event) (rest : List Event) (fault : CoreFault) → IsAt old now steps → AreSteps old.sheet.events id request (steps ++ e ∷ rest)
+      → Refuses now new e fault → KeepsFixed now new → StopsSteps old new id request fault
+  steps-stop now new steps e rest fault at made refuses keeps =
+      let F = FitsSteps old.sheet.events id request in
+      let made_on = subst (AreSteps old.sheet.events id request) (sym (append_assoc steps (e ∷ []) rest)) made in
+      StopsIn-map F F (λ _ fits. fits) old now new fault at.remains
+      (StopsIn-refused F now new e fault at.sound (steps, record { rest = e ∷ rest; made = inr made }, at.events)
+      (steps ++ e ∷ [], record { rest = rest; made = inr made_on }, ap (λ es. es ++ e ∷ []) at.events ∙ append_assoc old.sheet.events steps (e ∷ [])) refuses keeps)
+
+  -- there was no memory for what the next step needs
+  pub steps-starve : (now : Core) (steps : List Event) → IsAt old now steps → AreFirst old.sheet.events id request steps → StopsSteps old now id request OutOfMemory
+  steps-starve now steps at first =
+      let F = FitsSteps old.sheet.events id request in
+      StopsIn-map F F (λ _ fits. fits) old now now OutOfMemory at.remains (StopsIn-starved F now at.sound (steps, first, at.events))
+
+  -- all steps were made
+  pub steps-serve : (now new : Core) (steps : List Event) (e : Event) → IsAt old now steps → IsStep now new e → AreSteps old.sheet.events id request (steps ++ e ∷ []) → ServesSteps old new id request
+  steps-serve now new steps e at step made =
+      let all = IsAt-step old now new steps e at step in
+      record { steps = steps ++ e ∷ []; made = made; events = all.events; remains = all.remains; sound = all.sound; within = step.within }

@@ -1,6 +1,9 @@
+pub mod Course
 pub mod Progress
+pub mod Requests
 pub mod Served
 pub mod Session
 pub mod Status
+pub mod Stops
 pub mod Turns
 pub mod Words

@@ -1,18 +1,23 @@
 -- What a session that has ended says of its journal, its source and its sink.
-use Rattle.std.specs.Prelude.{◌≡◌, ◌<◌, ◌+◌, ⊤, ◌⊎◌, ℕ, List, [], ◌∷◌, ◌++◌, Option, Some, None, length, take, map, flat_map}
+use Rattle.std.specs.Prelude.{◌≡◌, ◌<◌, ◌≤◌, ◌+◌, ⊤, ◌⊎◌, ℕ, false, List, [], ◌∷◌, ◌++◌, Option, Some, None, length, take, map, flat_map}
 use Rattle.std.specs.List.{AllByRecursion}
 use Rattle.std.specs.Io.KnownBytes.{Appends}
 use Rattle.ci_io.specs.Lines.{HasNoFeed}
 use Rattle.ci_io.specs.Reading.{BeginsTooLong}
+use Rattle.ci_change.specs.declared.notice.Notice.{Notice}
 use Rattle.ci_journal.specs.declared.event.Event.{Event}
 use Rattle.ci_journal.specs.declared.request.Request.{Request}
+use Rattle.ci_journal.specs.declared.request.Request.TheVariants as request
 use Rattle.ci_journal.specs.Bytes.{capped, event_bytes, journal_bytes}
-use Rattle.ci_journal.specs.Folds.{asked}
+use Rattle.ci_journal.specs.Completions.{is_numbered, numbered}
+use Rattle.ci_journal.specs.Folds.{asked, last_of, notice_in}
 use Rattle.ci_journal.specs.Printed.{lines_of, printed}
 use Rattle.ci_journal.specs.Step.{May}
+use Rattle.ci_journal.specs.Terms.{Terms}
+use Rattle.ci_words.specs.Noise.{SameWords, standard_noise}
 use Rattle.ci_server.specs.declared.status.Status.{Status}
-use Rattle.ci_server.specs.declared.status.Status.TheVariants.{Done, Usage, ReadFault, WriteFault, JournalFull, OutOfMemory, EndlessLine}
-use Rattle.ci_server.specs.Progress.{requests, line_request, with_feed}
+use Rattle.ci_server.specs.declared.status.Status.TheVariants.{Done, Usage, ReadFault, WriteFault, JournalFull, TooManyDocuments, OutOfMemory, EndlessLine}
+use Rattle.ci_server.specs.Requests.{requests, line_request, with_feed}
 use Rattle.ci_server.specs.Turns.{IsTurnFront, Turns}
 
 -- whole turns, of these requests
@@ -25,32 +30,41 @@ pub record InTurns (journal : List Event) : Type 0 where
   pub turns : IsWhole whole
   pub front : List Event
   pub events : journal ≡ whole ++ front
-  pub cut : (front ≡ []) ⊎ ((id : ℕ) × (request : Request) × IsTurnFront id request front)
+  pub cut : (front ≡ []) ⊎ ((id : ℕ) × (request : Request) × IsTurnFront whole id request front)
 
--- where the source's bytes are told: the requests that were asked are those of its first lines
+-- where the source's bytes are told: the requests that were asked are the first of theirs
 abbrev pub AsksFirst : Option (List ℕ) → List Event → Type 0
 AsksFirst None journal = ⊤
 AsksFirst (Some all) journal = (more : List Request) × (requests all ≡ asked journal ++ more)
 
--- and these are the requests of all its lines
+-- and these are all of them
 abbrev pub AsksAll : Option (List ℕ) → List Event → Type 0
 AsksAll None journal = ⊤
 AsksAll (Some all) journal = requests all ≡ asked journal
 
--- where the bytes are told: the session took lines with their line feeds, asked for what they ask for, and took the
--- beginning of one more line, or nothing
+-- the last request that was asked ends the session
+abbrev pub EndsByQuit : List Event → Type 0
+EndsByQuit journal = last_of (asked journal) ≡ Some request.Quit
+
+-- the session took lines with their line feeds, which ask for what was asked, and then some bytes more
 pub record TakesLines (all left : List ℕ) (journal : List Event) : Type 0 where
   pub raws : List (List ℕ)
   pub begun : List ℕ
   pub whole : all ≡ flat_map with_feed raws ++ begun ++ left
   pub each : AllByRecursion HasNoFeed raws
-  pub unfed : HasNoFeed begun
   pub asked_are : asked journal ≡ map line_request raws
 
+-- where the bytes are told: of these bytes the session used nothing
+abbrev pub AsksBefore : Option (List ℕ) → Option (List ℕ) → List Event → Type 0
+AsksBefore None left journal = ⊤
+AsksBefore (Some all) None journal = ⊥
+AsksBefore (Some all) (Some left) journal = TakesLines all left journal
+
+-- where the bytes are told: these bytes are the beginning of one more line, or none
 abbrev pub AsksTaken : Option (List ℕ) → Option (List ℕ) → List Event → Type 0
 AsksTaken None left journal = ⊤
 AsksTaken (Some all) None journal = ⊥
-AsksTaken (Some all) (Some left) journal = TakesLines all left journal
+AsksTaken (Some all) (Some left) journal = (takes : TakesLines all left journal) × HasNoFeed takes.begun
 
 -- and the next line has more bytes than a line may have
 abbrev pub ComesTooLong : Option (List ℕ) → List Event → Type 0
@@ -67,13 +81,28 @@ pub record PrintsCut (old new : Option (List ℕ)) (journal : List Event) : Type
   pub written : Appends old new (printed front ++ take count (lines_of last.what))
 
 -- the next event, which may come and goes on with the turn, is above the bound
-pub record IsFullAt (limit : ℕ) (journal : List Event) (used more : ℕ) : Type 0 where
+pub record IsFullAt (terms : Terms) (limit : ℕ) (journal : List Event) (used more : ℕ) : Type 0 where
   pub event : Event
-  pub may : May journal event.by event.what
+  pub may : May terms journal event.by event.what
   pub in_turn : InTurns (journal ++ event ∷ [])
   pub counted : used ≡ journal_bytes journal
   pub wanted : more ≡ capped (event_bytes event.what)
   pub over : limit < used + more
+
+-- the next event, which may come and goes on with the turn, notes a path that never was noted, and as many paths were
+-- noted as may be
+pub record IsCrowdedAt (terms : Terms) (most : ℕ) (journal : List Event) : Type 0 where
+  pub event : Event
+  pub may : May terms journal event.by event.what
+  pub in_turn : InTurns (journal ++ event ∷ [])
+  pub notice : Notice
+  pub notes : notice_in event.what ≡ Some notice
+  pub new_path : is_numbered (numbered journal) notice.path ≡ false
+  pub many : most ≤ length (numbered journal)
+
+-- it holds under a list of noise words that has just the standard ones
+abbrev pub Standard : (Terms → Type 0) → Type 0
+Standard Holds = (noise : List (List ℕ)) × SameWords noise standard_noise × Holds (record { noise = noise })
 
 -- a session that ends with this status ends between two turns
 abbrev pub EndsBetween : Status → Type 0
@@ -83,6 +112,7 @@ EndsBetween EndlessLine = ⊤
 EndsBetween Usage = ⊥
 EndsBetween WriteFault = ⊥
 EndsBetween (JournalFull used more) = ⊥
+EndsBetween TooManyDocuments = ⊥
 EndsBetween OutOfMemory = ⊥
 
 -- a session ends well, unless memory was wanted

@@ -1,16 +1,22 @@
 -- The status that a refusal ends a session with, and how it is told.
-use Rattle.std.specs.Prelude.{ℕ, List, codes}
+use Rattle.std.specs.Prelude.{ℕ, List, Option, Some, None, codes}
 use Rattle.ci_io.specs.declared.read_fault.ReadFault.{ReadFault as LineFault}
 use Rattle.ci_io.specs.declared.read_fault.ReadFault.TheVariants as line
 use Rattle.ci_core.specs.declared.core_fault.CoreFault.{CoreFault}
-use Rattle.ci_core.specs.declared.core_fault.CoreFault.TheVariants as core
+use Rattle.ci_core.specs.declared.core_fault.CoreFault.TheVariants as fault
 use Rattle.ci_server.specs.declared.status.Status.{Status}
-use Rattle.ci_server.specs.declared.status.Status.TheVariants.{Done, Usage, ReadFault, WriteFault, JournalFull, OutOfMemory, EndlessLine}
+use Rattle.ci_server.specs.declared.status.Status.TheVariants.{Done, Usage, ReadFault, WriteFault, JournalFull, TooManyDocuments, OutOfMemory, EndlessLine}
 
-abbrev pub status_of_core : CoreFault → Status
-status_of_core (core.JournalFull used more) = JournalFull used more
-status_of_core core.OutOfMemory = OutOfMemory
-status_of_core core.WriteFault = WriteFault
+-- the refusal of a step that a status tells; none tells that an earlier one was refused
+abbrev pub refusal_told : Status → Option CoreFault
+refusal_told Done = None
+refusal_told Usage = None
+refusal_told ReadFault = None
+refusal_told WriteFault = Some fault.WriteFault
+refusal_told (JournalFull used more) = Some (fault.JournalFull used more)
+refusal_told TooManyDocuments = Some fault.TooManyDocuments
+refusal_told OutOfMemory = Some fault.OutOfMemory
+refusal_told EndlessLine = None
 
 abbrev pub status_of_read : LineFault → Status
 status_of_read line.Failed = ReadFault
@@ -24,6 +30,7 @@ exit_code Usage = 2
 exit_code ReadFault = 3
 exit_code WriteFault = 4
 exit_code (JournalFull used more) = 8
+exit_code TooManyDocuments = 9
 exit_code OutOfMemory = 10
 exit_code EndlessLine = 12
 
@@ -34,5 +41,6 @@ status_name Usage = codes "Usage"
 status_name ReadFault = codes "ReadFault"
 status_name WriteFault = codes "WriteFault"
 status_name (JournalFull used more) = codes "JournalFull"
+status_name TooManyDocuments = codes "TooManyDocuments"
 status_name OutOfMemory = codes "OutOfMemory"
 status_name EndlessLine = codes "EndlessLine"

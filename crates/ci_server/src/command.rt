@@ -1,18 +1,18 @@
-ghost use Rattle.std.specs.Prelude.{◌≡◌, ◌≢◌, ◌↔◌, ℕ, [], false, true, bytes_eq};
+ghost use Rattle.std.specs.Prelude.{◌≡◌, ◌≢◌, ◌↔◌, ◌≤◌, ◌⊎◌, ℕ, [], false, true, length, bytes_eq};
 ghost use Rattle.std.specs.Io.KnownBytes.{Appends, IsAtEnd};
 ghost use Rattle.ci_io.specs.Causes.{Rose};
-ghost use Rattle.ci_core.specs.declared.settings.TheConstants.{JOURNAL_MOST};
+ghost use Rattle.ci_core.specs.declared.settings.TheConstants.{JOURNAL_MOST, DOCUMENTS_MOST};
+ghost use Rattle.ci_journal.specs.Completions.{numbered};
 ghost use Rattle.ci_journal.specs.Printed.{printed};
 ghost use Rattle.ci_journal.specs.Step.{Run};
 ghost use Rattle.ci_law.specs.Law.{AllAnswer};
-ghost use Rattle.ci_server.specs.Session.{InTurns, IsWhole, EndsBetween, AsksFirst, AsksAll, AsksTaken, ComesTooLong, PrintsCut, IsFullAt, EndsWellOrStarves};
+ghost use Rattle.ci_server.specs.Session.{Standard, InTurns, IsWhole, EndsBetween, AsksFirst, AsksAll, AsksBefore, AsksTaken, EndsByQuit, ComesTooLong, PrintsCut, IsFullAt, IsCrowdedAt, EndsWellOrStarves};
 ghost use Rattle.ci_server.specs.Words.{are_words};
 
 use crate::{Session, Status, run_steps};
 use ci_base::Text;
 use ci_core::Settings;
 use ci_io::{Sink, Source};
-use ci_journal::Journal;
 use std::alloc::Global;
 
 /// Runs the session that the command line asks for: the program's name, `steps`, and the one scope `/`.
@@ -28,19 +28,25 @@ pub fn run<S: Source + Drop, K: Sink + Drop>(
     ensures unread { result.status ≡ Status.Usage → result.source ≡ source }
     ensures unwritten { result.status ≡ Status.Usage → result.sink ≡ sink }
 
-    // Otherwise the session is that of `run_steps`, with the standard settings.
-    ensures run { Run result.journal.list }
-    ensures answers { AllAnswer result.journal.list }
+    // Otherwise the session is that of `run_steps` with the standard settings: their noise list has
+    // the standard words, in whatever order.
+    ensures run { Standard (λ terms. Run terms result.journal.list) }
+    ensures answers { Standard (λ terms. AllAnswer terms result.journal.list) }
     ensures turns { InTurns result.journal.list }
     ensures whole { EndsBetween result.status → IsWhole result.journal.list }
 
     ensures lines { AsksFirst (S.left source) result.journal.list }
     ensures all_lines { result.status ≡ Status.Done → AsksAll (S.left source) result.journal.list }
+    ensures done { result.status ≡ Status.Done →
+        IsAtEnd (S.left result.source) ⊎ EndsByQuit result.journal.list }
+    ensures ends_at_quit { EndsByQuit result.journal.list → EndsBetween result.status →
+        result.status ≡ Status.Done }
+    ensures left_at_quit { result.status ≡ Status.Done → IsAtEnd (S.left result.source)
+        ⊎ AsksBefore (S.left source) (S.left result.source) result.journal.list }
     ensures taken_at_fault { result.status ≡ Status.ReadFault →
         AsksTaken (S.left source) (S.left result.source) result.journal.list }
     ensures taken_at_long { result.status ≡ Status.EndlessLine →
         AsksTaken (S.left source) (S.left result.source) result.journal.list }
-    ensures done { result.status ≡ Status.Done → IsAtEnd (S.left result.source) }
 
     ensures printed { result.status ≢ Status.WriteFault →
         Appends (K.written sink) (K.written result.sink) (printed result.journal.list) }
@@ -52,26 +58,30 @@ pub fn run<S: Source + Drop, K: Sink + Drop>(
     ensures write_fault { result.status ≡ Status.WriteFault →
         Rose (K.faults sink) (K.faults result.sink) }
     ensures journal_full { (used more : ℕ) → result.status ≡ Status.JournalFull used more →
-        IsFullAt JOURNAL_MOST result.journal.list used more }
+        Standard (λ terms. IsFullAt terms JOURNAL_MOST result.journal.list used more) }
+    ensures crowded { result.status ≡ Status.TooManyDocuments →
+        Standard (λ terms. IsCrowdedAt terms DOCUMENTS_MOST result.journal.list) }
+    ensures bounded { length (numbered result.journal.list) ≤ DOCUMENTS_MOST }
     ensures endless { result.status ≡ Status.EndlessLine →
         ComesTooLong (S.left source) result.journal.list }
 
-    // Where none of these causes holds, the session reads its source to the end.
-    ensures complete { are_words words.now ≡ true → (Rose (S.faults source) (S.faults result.source) → ⊥) →
+    // Where none of these causes holds, the session ends well.
+    ensures complete { are_words words.now ≡ true →
+        (Rose (S.faults source) (S.faults result.source) → ⊥) →
         (Rose (K.faults sink) (K.faults result.sink) → ⊥) →
-        ((used more : ℕ) → IsFullAt JOURNAL_MOST result.journal.list used more → ⊥) →
+        ((used more : ℕ) → Standard (λ terms.
+        IsFullAt terms JOURNAL_MOST result.journal.list used more) → ⊥) →
+        (Standard (λ terms. IsCrowdedAt terms DOCUMENTS_MOST result.journal.list) → ⊥) →
         (ComesTooLong (S.left source) result.journal.list → ⊥) →
         EndsWellOrStarves result.status }
 {
     if !are_words(words) {
-        return Session {
-            status: Status::Usage,
-            journal: Journal::new(alloc),
-            source,
-            sink,
-        };
+        return Session::idle(alloc, Status::Usage, source, sink);
     }
-    run_steps(alloc, &Settings::standard(), source, sink)
+    match Settings::standard(alloc) {
+        Ok(settings) => run_steps(alloc, &settings, source, sink),
+        Err(_) => Session::idle(alloc, Status::OutOfMemory, source, sink),
+    }
 }
 
 fn are_words(words: &[Text]) -> bool

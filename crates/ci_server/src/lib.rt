@@ -3,7 +3,9 @@
 
 mod command;
 mod read_lines;
+mod serve_document;
 mod serve_line;
+mod serve_reply;
 mod serve_request;
 mod session;
 mod status;
@@ -11,8 +13,13 @@ mod steps;
 
 pub use command::run;
 use read_lines::read_lines;
+use serve_document::{serve_changed, serve_deleted, serve_put};
 use serve_line::serve_line;
+use serve_reply::{serve_bad, serve_long, serve_pending, serve_quit, serve_wait};
 use serve_request::serve_request;
 pub use session::Session;
 pub use status::Status;
 pub use steps::run_steps;
+
+/// The author of every event here: the foreground, which reads the lines.
+const FOREGROUND: u32 = 0;

@@ -1,7 +1,8 @@
-ghost use Rattle.std.specs.Prelude.{◌≡◌, ◌≢◌, ◌+◌, [], length, OnOk, IfErr};
-ghost use Rattle.ci_journal.specs.Folds.{asked, unopened};
-ghost use Rattle.ci_journal.specs.Requests.{request_of};
-ghost use Rattle.ci_server.specs.Served.{ServesTurn, StopsTurn};
+ghost use Rattle.std.specs.Prelude.{◌≡◌, ◌≢◌, ◌+◌, length, OnOk, IfOk, IfErr};
+ghost use Rattle.ci_journal.specs.Folds.{asked};
+ghost use Rattle.ci_journal.specs.Requests.{IsShort, request_of};
+ghost use Rattle.ci_server.specs.Requests.{is_quit};
+ghost use Rattle.ci_server.specs.Served.{IsBetween, ServesTurn, StopsTurn};
 
 use crate::serve_request;
 use ci_core::{Catalog, CoreFault};
@@ -9,19 +10,39 @@ use ci_io::{Line, Sink};
 use ci_journal::Request;
 use std::alloc::Global;
 
-/// Serves the request of one line: asks it, makes its steps, and replies to it.
+/// Serves the request of one line: asks it, makes its steps, and replies to it. True ends the
+/// session.
 pub fn serve_line<K: Sink + Drop>(
     alloc: Global,
     catalog: &mut Catalog<K>,
     line: &Line,
-) -> Result<(), CoreFault>
+) -> Result<bool, CoreFault>
     requires line { line.now ≢ Line.End }
-    requires all_opened { unopened catalog.old.events ≡ [] }
-    ensures ok { let id = length (asked catalog.old.events) + 1 in
+    requires short { IsShort line.now }
+    requires between { IsBetween catalog.old }
+    ensures ok { let id = length (asked catalog.old.sheet.events) + 1 in
         OnOk result (ServesTurn catalog.old catalog.new id (request_of line.now)) }
-    ensures err { let id = length (asked catalog.old.events) + 1 in
+    ensures quits { IfOk result (λ quits. quits ≡ is_quit (request_of line.now)) }
+    ensures err { let id = length (asked catalog.old.sheet.events) + 1 in
         IfErr result (StopsTurn catalog.old catalog.new id (request_of line.now)) }
 {
     let request = Request::read(alloc, line)?;
-    serve_request(alloc, catalog, &request)
+    serve_request(alloc, catalog, &request)?;
+    Ok(is_quit(&request))
+}
+
+fn is_quit(request: &Request) -> bool
+    ensures { result ≡ is_quit request.now }
+{
+    match request {
+        Request::Quit => true,
+        Request::Changed(_) => false,
+        Request::Deleted(_) => false,
+        Request::Put { .. } => false,
+        Request::Query(_) => false,
+        Request::Pending => false,
+        Request::Wait => false,
+        Request::Bad => false,
+        Request::Long => false,
+    }
 }

@@ -1,5 +1,5 @@
-ghost use Rattle.std.specs.Prelude.{◌≡◌};
-ghost use Rattle.ci_server.specs.Status.{status_of_core, status_of_read, exit_code, status_name};
+ghost use Rattle.std.specs.Prelude.{◌≡◌, ◌≢◌, Some};
+ghost use Rattle.ci_server.specs.Status.{refusal_told, status_of_read, exit_code, status_name};
 
 use ci_core::CoreFault;
 use ci_io::ReadFault;
@@ -7,7 +7,7 @@ use ci_io::ReadFault;
 /// How a session ended.
 #[derive(Clone, Copy, Debug, PartialEq, Eq)]
 pub enum Status {
-    /// The source was read to its end.
+    /// The source was read to its end or to `quit`.
     Done,
     /// The command line isn't one that the program takes.
     Usage,
@@ -17,8 +17,10 @@ pub enum Status {
     WriteFault,
     /// The journal's bytes, `used`, and those of the refused step's event, `more`, are above the setting.
     JournalFull { used: u64, more: u64 },
+    /// A path is new, and as many were noted as the setting says.
+    TooManyDocuments,
     OutOfMemory,
-    /// A line has more bytes than a line may have.
+    /// A line without an end.
     EndlessLine,
 }
 
@@ -33,6 +35,7 @@ impl Status {
             Status::ReadFault => 3,
             Status::WriteFault => 4,
             Status::JournalFull { .. } => 8,
+            Status::TooManyDocuments => 9,
             Status::OutOfMemory => 10,
             Status::EndlessLine => 12,
         }
@@ -48,20 +51,23 @@ impl Status {
             Status::ReadFault => "ReadFault",
             Status::WriteFault => "WriteFault",
             Status::JournalFull { .. } => "JournalFull",
+            Status::TooManyDocuments => "TooManyDocuments",
             Status::OutOfMemory => "OutOfMemory",
             Status::EndlessLine => "EndlessLine",
         }
     }
-}
 
-impl From<CoreFault> for Status {
-    ghost from_gives = { λ fault status. status ≡ status_of_core fault };
-
-    fn from(fault: CoreFault) -> Status {
+    // The status of a session whose step was refused. Only its first refusal is met here.
+    pub(crate) fn of_step(fault: CoreFault) -> Status
+        requires { fault ≢ CoreFault.Ended }
+        ensures { refusal_told result ≡ Some fault }
+    {
         match fault {
             CoreFault::JournalFull { used, more } => Status::JournalFull { used, more },
+            CoreFault::TooManyDocuments => Status::TooManyDocuments,
             CoreFault::OutOfMemory => Status::OutOfMemory,
             CoreFault::WriteFault => Status::WriteFault,
+            CoreFault::Ended => unreachable!(),
         }
     }
 }

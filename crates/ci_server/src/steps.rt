@@ -1,40 +1,53 @@
-ghost use Rattle.std.specs.Prelude.{◌≡◌, ◌≢◌, ℕ};
+ghost use Rattle.std.specs.Prelude.{◌≡◌, ◌≢◌, ◌≤◌, ◌⊎◌, ℕ, [], length};
 ghost use Rattle.std.specs.Io.KnownBytes.{Appends, IsAtEnd};
 ghost use Rattle.ci_io.specs.Causes.{Rose};
+ghost use Rattle.ci_journal.specs.Completions.{numbered};
 ghost use Rattle.ci_journal.specs.Printed.{printed};
 ghost use Rattle.ci_journal.specs.Step.{Run};
 ghost use Rattle.ci_law.specs.Law.{AllAnswer};
-ghost use Rattle.ci_server.specs.Session.{InTurns, IsWhole, EndsBetween, AsksFirst, AsksAll, AsksTaken, ComesTooLong, PrintsCut, IsFullAt, EndsWellOrStarves};
+ghost use Rattle.ci_server.specs.Course.{IsTold};
+ghost use Rattle.ci_server.specs.Session.{InTurns, IsWhole, EndsBetween, AsksFirst, AsksAll, AsksBefore, AsksTaken, EndsByQuit, ComesTooLong, PrintsCut, IsFullAt, IsCrowdedAt, EndsWellOrStarves};
 
 use crate::{Session, Status, read_lines};
 use ci_core::{Catalog, Settings};
 use ci_io::{LineReader, Sink, Source};
+use ci_journal::Journal;
 use std::alloc::Global;
 
-/// Runs a session: reads the source line by line, serves each request, and prints each reply. It waits for nobody,
-/// and returns for every source: each line adds to a journal that the setting bounds.
+/// Runs a session: reads the source line by line, serves each request, and prints each reply. It
+/// waits for nobody, and returns for every source: each line adds to a journal that the setting
+/// bounds.
 pub fn run_steps<S: Source + Drop, K: Sink + Drop>(
     alloc: Global,
     settings: &Settings,
     source: S,
     sink: K,
 ) -> Session<S, K>
-    // The journal is a run of steps, and each answer in it lists the hits at its own point.
-    ensures run { Run result.journal.list }
-    ensures answers { AllAnswer result.journal.list }
+    // The journal is a run of steps under the session's noise words, and each answer in it lists
+    // the hits at its own point.
+    ensures run { Run (record { noise = settings.now.noise }) result.journal.list }
+    ensures answers { AllAnswer (record { noise = settings.now.noise }) result.journal.list }
 
     // Between a request's asking and its reply stand just its steps, and between turns nothing.
     ensures turns { InTurns result.journal.list }
     ensures whole { EndsBetween result.status → IsWhole result.journal.list }
 
-    // What was asked is what the lines ask for.
+    // What was asked is what the lines ask for, up to and including the first `quit`.
     ensures lines { AsksFirst (S.left source) result.journal.list }
     ensures all_lines { result.status ≡ Status.Done → AsksAll (S.left source) result.journal.list }
+    ensures done { result.status ≡ Status.Done →
+        IsAtEnd (S.left result.source) ⊎ EndsByQuit result.journal.list }
+    ensures ends_at_quit { EndsByQuit result.journal.list → EndsBetween result.status →
+        result.status ≡ Status.Done }
+
+    // Where the session ended before the source, what was asked is of the lines whose feeds were
+    // taken, and what was taken besides asked for nothing.
+    ensures left_at_quit { result.status ≡ Status.Done → IsAtEnd (S.left result.source)
+        ⊎ AsksBefore (S.left source) (S.left result.source) result.journal.list }
     ensures taken_at_fault { result.status ≡ Status.ReadFault →
         AsksTaken (S.left source) (S.left result.source) result.journal.list }
     ensures taken_at_long { result.status ≡ Status.EndlessLine →
         AsksTaken (S.left source) (S.left result.source) result.journal.list }
-    ensures done { result.status ≡ Status.Done → IsAtEnd (S.left result.source) }
 
     // What was written is the printed journal.
     ensures printed { result.status ≢ Status.WriteFault →
@@ -49,18 +62,57 @@ pub fn run_steps<S: Source + Drop, K: Sink + Drop>(
     ensures write_fault { result.status ≡ Status.WriteFault →
         Rose (K.faults sink) (K.faults result.sink) }
     ensures journal_full { (used more : ℕ) → result.status ≡ Status.JournalFull used more →
-        IsFullAt settings.now.journal result.journal.list used more }
+        IsFullAt (record { noise = settings.now.noise })
+        settings.now.journal result.journal.list used more }
+    ensures crowded { result.status ≡ Status.TooManyDocuments →
+        IsCrowdedAt (record { noise = settings.now.noise })
+        settings.now.documents result.journal.list }
+    ensures bounded { length (numbered result.journal.list) ≤ settings.now.documents }
     ensures endless { result.status ≡ Status.EndlessLine →
         ComesTooLong (S.left source) result.journal.list }
 
-    // Where none of these causes holds, the session reads its source to the end.
+    // Where none of these causes holds, the session ends well.
     ensures complete { (Rose (S.faults source) (S.faults result.source) → ⊥) →
         (Rose (K.faults sink) (K.faults result.sink) → ⊥) →
-        ((used more : ℕ) → IsFullAt settings.now.journal result.journal.list used more → ⊥) →
+        ((used more : ℕ) → IsFullAt (record { noise = settings.now.noise })
+        settings.now.journal result.journal.list used more → ⊥) →
+        (IsCrowdedAt (record { noise = settings.now.noise })
+        settings.now.documents result.journal.list → ⊥) →
         (ComesTooLong (S.left source) result.journal.list → ⊥) →
         EndsWellOrStarves result.status }
 {
-    let mut catalog = Catalog::new(alloc, sink, settings);
+    run_course(alloc, settings, source, sink)
+}
+
+// As `run_steps`.
+fn run_course<S: Source + Drop, K: Sink + Drop>(
+    alloc: Global,
+    settings: &Settings,
+    source: S,
+    sink: K,
+) -> Session<S, K>
+    ensures { IsTold (record {
+      terms = record { noise = settings.now.noise };
+      limit = settings.now.journal;
+      most = settings.now.documents;
+      bytes = S.left source;
+      left = S.left result.source;
+      read_faults = S.faults source;
+      read_faults_after = S.faults result.source;
+      written = K.written sink;
+      written_after = K.written result.sink;
+      write_faults = K.faults sink;
+      write_faults_after = K.faults result.sink;
+      status = result.status;
+      journal = result.journal.list;
+    }) }
+{
+    let mut catalog = match Catalog::new(alloc, sink, settings) {
+        Ok(catalog) => catalog,
+        Err(no_catalog) => {
+            return Session::idle(alloc, Status::OutOfMemory, source, no_catalog.sink);
+        }
+    };
     match LineReader::new(alloc, source) {
         Ok(mut reader) => {
             let status = read_lines(alloc, &mut reader, &mut catalog);
@@ -77,11 +129,11 @@ fn end<S: Source + Drop, K: Sink + Drop>(
     source: S,
 ) -> Session<S, K>
     ensures status { result.status ≡ status }
-    ensures journal { result.journal.list ≡ catalog.events }
-    ensures run { Run result.journal.list }
+    ensures journal { result.journal.list ≡ catalog.sheet.events }
+    ensures run { Run catalog.terms result.journal.list }
     ensures source { result.source ≡ source }
-    ensures written { K.written result.sink ≡ catalog.written }
-    ensures faults { K.faults result.sink ≡ catalog.faults }
+    ensures written { K.written result.sink ≡ catalog.sheet.written }
+    ensures faults { K.faults result.sink ≡ catalog.sheet.faults }
 {
     let closed = catalog.close();
     Session {

@@ -1,26 +1,30 @@
-use Rattle.ci_journal.specs.Requests.{bytes_request}
-use Rattle.ci_server.proofs.ProgressLemmas.{Feeds-line, Reads-line, StopsAt-of_core}
+use Rattle.std.proofs.Common.{sym}
+use Rattle.ci_server.proofs.LineLemmas.{GoesOn-served, IsShort-given, StopsAt-step, StopsAt-unread, StopsIn-line}
 use Rattle.ci_server.proofs.read_lines.next_line.Goals as goal
 
-pub returns-clause-err : goal.returns-clause-err
-returns-clause-err g c =
-    let takes = rw c.in-Text.is at c.in-Ok.ensures.ok in
-    rw c.from-in-Err-serve_line.ensures (StopsAt-of_core _ _ _ _ _ (record {
-      request = bytes_request c.in-Text.field-0;
-      reads = Reads-line _ _ c.in-Text.field-0 takes;
-      faults = c.in-Ok.ensures.kept;
-      stops = c.in-Err-serve_line.ensures.err;
+pub returns-in-Err-clause-err : goal.returns-in-Err-clause-err
+returns-in-Err-clause-err g c =
+    let e = c.in-Err.ensures in
+    rw c.from.ensures (StopsAt-unread c.args.reader.now c.read_line.new.self _ c.in-Err.fault c.requires.sound (record {
+      loses = e.err;
+      rose = λ is. e.failed (let h = is in cc);
+      held = λ is. e.failed_within (let h = is in cc);
+      failed_before_end = λ is. e.failed_before_end (let h = is in cc);
+      endless = λ is. e.endless (let h = is in cc);
+      too_long = λ is. e.too_long (let h = is in cc);
+      endless_before_end = λ is. e.endless_before_end (let h = is in cc);
     }))
+
+pub serve_line-requires-clause-short : goal.serve_line-requires-clause-short
+serve_line-requires-clause-short g c = IsShort-given c.in-Ok.line c.in-Ok.ensures.short
 
 pub returns-in-Ok-serve_line-clause-ok : goal.returns-in-Ok-serve_line-clause-ok
 returns-in-Ok-serve_line-clause-ok g c =
-    let takes = rw c.in-Text.is at c.in-Ok.ensures.ok in
-    let fed = rw c.in-Text.is at c.in-Ok.ensures.fed in
-    record {
-      request = bytes_request c.in-Text.field-0;
-      reads = Reads-line _ _ c.in-Text.field-0 takes;
-      feeds = λ e. Feeds-line _ _ c.in-Text.field-0 (fed e);
-      stays_ended = c.in-Ok.ensures.stays_ended;
-      faults = c.in-Ok.ensures.kept;
-      serves = c.in-Ok-serve_line.ensures.ok;
-    }
+    let r = c.in-Ok.ensures in
+    let s = c.in-Ok-serve_line.ensures in
+    GoesOn-served c.args.reader.now c.read_line.new.self c.in-Ok.line (sym c.if-is_end.ensures) r.ok _ _ r.fed r.last r.stays_ended r.kept s.ok c.in-Ok-serve_line.quits s.quits
+
+pub returns-clause-err : goal.returns-clause-err
+returns-clause-err g c =
+    StopsAt-step c.args.reader.now c.read_line.new.self _ _ c.in-Err-serve_line.fault c.of_step.result c.of_step.ensures
+    (StopsIn-line c.args.reader.now c.read_line.new.self c.in-Ok.line (sym c.if-is_end.ensures) c.in-Ok.ensures.ok _ _ c.in-Err-serve_line.fault c.in-Err-serve_line.ensures.err)

@@ -1,10 +1,26 @@
-use Rattle.ci_core.proofs.StepLemmas.{answered-kept, unanswered-kept}
+use Rattle.std.proofs.Common.{◌≡◌, ◌∙◌, length, ap, sym, subst}
+use Rattle.ci_journal.specs.declared.event.Happened.TheVariants.{Answered}
+use Rattle.ci_journal.specs.Step.{MayAnswer}
+use Rattle.ci_core.specs.Changes.{event}
+use Rattle.ci_core.specs.Core.{Core}
+use Rattle.ci_core.proofs.CatalogLemmas.{IsCatalog-step, IsStep, KeepsFixed-step, told-as}
 use Rattle.ci_core.proofs.catalog.Catalog.answer.Goals as goal
 
-pub invariant_of-self : goal.invariant_of-self
-invariant_of-self g c =
-    unanswered-kept _ _ _ _ _ c.self.invariant c.args.self.now _ c.args.by c.args.id c.args.at c.args.paths _ c.self.view_is c.requires c.in_err-print.ensures.refused
+step : (g : _) (c : goal.After-keep g) → IsStep c.self.inside.holdings c.answer-made.new.self c.self.inside.refusal (event c.args.by (Answered c.args.id c.args.at c.args.paths)) c.answer-made.result c.keep.new.refusal
+step g c =
+    let old : Core = c.self.inside.holdings in
+    let place : c.in_ok-place.place ≡ length old.sheet.events = c.in_ok-place.ensures.at ∙ ap (λ (core : Core). length core.sheet.events) (sym c.self.view_is) in
+    record {
+      unrefused = ap (λ (core : Core). core.refusal) c.self.view_is ∙ c.in_ok-place.ensures.unrefused;
+      may = subst (λ (core : Core). MayAnswer core.terms core.sheet.events c.args.id c.args.at c.args.paths) (sym c.self.view_is) c.requires;
+      ok = c.answer-made.ensures.ok;
+      err = c.answer-made.ensures.refused;
+      kept = c.keep.ensures.ok;
+      told = told-as c.answer-made.result c.keep.new.refusal c.args.by _ _ _ _ place c.answered-tried.ensures c.keep.ensures.err;
+    }
 
-pub invariant_of-self-2 : goal.invariant_of-self-2
-invariant_of-self-2 g c =
-    answered-kept _ _ _ _ _ c.self.invariant c.args.self.now _ c.args.by c.args.id c.args.at c.args.paths c.self.view_is c.requires c.in_ok-print.ensures.ok
+pub invariant_of-self : goal.invariant_of-self
+invariant_of-self g c = IsCatalog-step _ _ _ _ c.answer-made.result c.keep.new.refusal (step g c) c.self.invariant
+
+pub returns-clause-fixed : goal.returns-clause-fixed
+returns-clause-fixed g c = rw (← c.self.view_is) (KeepsFixed-step _ _ _ _ c.answer-made.result c.keep.new.refusal (step g c))

@@ -1,34 +1,36 @@
-use Rattle.std.proofs.Common.{◌∙◌, ◌≡◌, ap, sym, rules, refl, slice_get, Some, length, drop}
-use Rattle.std.proofs.lemmas.Result.{err_from_is_err_and}
-use Rattle.ci_core.proofs.StepLemmas.{opened-kept, opens-first, opening-lacks_room, opening-starves}
+use Rattle.std.proofs.Common.{◌≡◌, ◌∙◌, [], length, slice_get, ap, sym, subst}
+use Rattle.ci_journal.specs.declared.event.Happened.TheVariants.{Opened}
+use Rattle.ci_journal.specs.Folds.{unopened}
+use Rattle.ci_core.specs.Changes.{event}
+use Rattle.ci_core.specs.Core.{Core}
+use Rattle.ci_core.specs.Refusals.{Halts}
+use Rattle.ci_core.proofs.CatalogLemmas.{IsCatalog-step, IsStep, KeepsFixed-step, Refuses-step, RefusesOpening-of, Rests-refl, first-of, halts-first, none-waits, opening-made, told-as}
 use Rattle.ci_core.proofs.catalog.Catalog.open_query.Goals as goal
 
-pub invariant_of-self-2 : goal.invariant_of-self-2
-invariant_of-self-2 g c =
-    let front : slice_get c.self.inside.waiting.items 0 ≡ Some c.in-Some.first.now = sym c.in-Some.ensures in
-    let rest : c.pop_front.new.self.items ≡ drop 1 c.self.inside.waiting.items = search rules in
-    opened-kept _ _ _ _ _ c.self.invariant _ _ c.args.by c.in-Some.first.now _ c.in_ok-prepare.ensures.ok.stays front rest c.add.ensures
+pub returns-in_default-clause-ok : goal.returns-in_default-clause-ok
+returns-in_default-clause-ok g c =
+    (subst (λ (core : Core). unopened core.sheet.events ≡ []) c.self.view_is (none-waits _ c.in_default.ensures), Rests-refl c.args.self.now)
 
-pub returns-clause-ok : goal.returns-clause-ok
-returns-clause-ok g c =
-    let front : slice_get c.self.inside.waiting.items 0 ≡ Some c.in-Some.first.now = sym c.in-Some.ensures in
-    opens-first _ _ _ _ _ c.self.invariant c.args.self.now _ _ c.args.by c.in-Some.first.now _ c.self.view_is c.in_ok-prepare.ensures.ok.stays front c.add.ensures
-    refl c.in_ok-word.ensures (ap length (c.events.ensures ∙ c.journal.ensures)) c.in_ok-plain.ensures
+step : (g : _) (c : goal.After-keep g) → IsStep c.self.inside.holdings c.open_query-made.new.self c.self.inside.refusal (event c.args.by (Opened c.in-Some.id)) c.open_query-made.result c.keep.new.refusal
+step g c =
+    let old : Core = c.self.inside.holdings in
+    let place : c.in_ok-at.at ≡ length old.sheet.events = c.in_ok-at.ensures.at ∙ ap (λ (core : Core). length core.sheet.events) (sym c.self.view_is) in
+    let first = first-of (slice_get (unopened old.sheet.events) 0) c.in-Some.id c.in-Some.ensures in
+    record {
+      unrefused = ap (λ (core : Core). core.refusal) c.self.view_is ∙ c.in_ok-at.ensures.unrefused;
+      may = record { word = first.0; first = first.1 };
+      ok = opening-made old c.open_query-made.new.self c.args.by c.in-Some.id first.0 c.open_query-made.result first.1 c.open_query-made.ensures.ok;
+      err = halts-first (λ id. Halts old c.open_query-made.new.self (event c.args.by (Opened id))) (slice_get (unopened old.sheet.events) 0) c.in-Some.id first.0 c.open_query-made.result c.open_query-made.ensures.refused first.1;
+      kept = c.keep.ensures.ok;
+      told = told-as c.open_query-made.result c.keep.new.refusal c.args.by _ _ _ _ place c.opened-tried.ensures c.keep.ensures.err;
+    }
 
-pub returns-in_err-prepare-clause-refused : goal.returns-in_err-prepare-clause-refused
-returns-in_err-prepare-clause-refused g c =
-    let front : slice_get c.self.inside.waiting.items 0 ≡ Some c.in-Some.first.now = sym c.in-Some.ensures in
-    let p = err_from_is_err_and c.from_residual.result c.from_residual.ensures.1 in
-    rw (p.1, p.2) (opening-lacks_room _ _ _ _ _ c.self.invariant c.args.self.now _ c.args.by c.in-Some.first.now _ c.self.view_is front c.in_err-prepare.ensures.refused)
+pub invariant_of-self : goal.invariant_of-self
+invariant_of-self g c = IsCatalog-step _ _ _ _ c.open_query-made.result c.keep.new.refusal (step g c) c.self.invariant
 
-pub returns-in_err-word-clause-refused : goal.returns-in_err-word-clause-refused
-returns-in_err-word-clause-refused g c =
-    let front : slice_get c.self.inside.waiting.items 0 ≡ Some c.in-Some.first.now = sym c.in-Some.ensures in
-    let p = err_from_is_err_and c.from_residual-in_err-word.result c.from_residual-in_err-word.ensures.1 in
-    rw (p.1, p.2) (opening-starves _ _ _ _ _ c.self.invariant c.args.self.now _ c.args.by c.in-Some.first.now c.self.view_is front c.in_ok-prepare.ensures.ok)
+pub returns-clause-refused : goal.returns-clause-refused
+returns-clause-refused g c =
+    rw (c.keep.ensures.same, ← c.self.view_is) (RefusesOpening-of _ _ c.args.by c.in-Some.id c.open_query-made.result (Refuses-step _ _ _ _ c.open_query-made.result c.keep.new.refusal (step g c)))
 
-pub returns-in_err-plain-clause-refused : goal.returns-in_err-plain-clause-refused
-returns-in_err-plain-clause-refused g c =
-    let front : slice_get c.self.inside.waiting.items 0 ≡ Some c.in-Some.first.now = sym c.in-Some.ensures in
-    let p = err_from_is_err_and c.from_residual-in_err-plain.result c.from_residual-in_err-plain.ensures.1 in
-    rw (p.1, p.2) (opening-starves _ _ _ _ _ c.self.invariant c.args.self.now _ c.args.by c.in-Some.first.now c.self.view_is front c.in_ok-prepare.ensures.ok)
+pub returns-clause-fixed : goal.returns-clause-fixed
+returns-clause-fixed g c = rw (← c.self.view_is) (KeepsFixed-step _ _ _ _ c.open_query-made.result c.keep.new.refusal (step g c))

@@ -1,9 +1,22 @@
-use Rattle.std.proofs.Common.{◌∙◌, ap}
-use Rattle.ci_words.specs.Words.{words}
-use Rattle.ci_core.proofs.StepLemmas.{put-kept}
+use Rattle.std.proofs.Common.{◌≡◌, ◌∙◌, length, ap, sym, subst}
+use Rattle.ci_change.specs.declared.notice.What.TheVariants.{Changed}
+use Rattle.ci_journal.specs.declared.event.Happened.TheVariants.{Put}
+use Rattle.ci_journal.specs.Step.{MayPut}
+use Rattle.ci_core.specs.Changes.{event}
+use Rattle.ci_core.specs.Core.{Core}
+use Rattle.ci_core.proofs.CatalogLemmas.{IsCatalog-step, IsStep, told-as}
 use Rattle.ci_core.proofs.catalog.Catalog.put.Goals as goal
 
-pub invariant_of-self-2 : goal.invariant_of-self-2
-invariant_of-self-2 g c =
-    put-kept _ _ _ _ _ c.self.invariant c.args.self.now _ _ c.args.by c.args.path.now c.in_ok-key.key c.in_ok-path.path c.args.seq c.args.text c.from-entry.result _ c.self.view_is c.requires c.in_ok-prepare.ensures.ok.stays
-    (c.from-entry.ensures ∙ c.in_ok-of.ensures.words ∙ ap words c.as_str.ensures) c.in_ok-key.ensures c.in_ok-path.ensures c.in_ok-serve.ensures.ok c.add.ensures
+pub invariant_of-self : goal.invariant_of-self
+invariant_of-self g c =
+    let old : Core = c.self.inside.holdings in
+    let place : c.in_ok-at.at ≡ length old.sheet.events = c.in_ok-at.ensures.at ∙ ap (λ (core : Core). length core.sheet.events) (sym c.self.view_is) in
+    let step : IsStep old c.put-made.new.self c.self.inside.refusal (event c.args.by (Put c.args.path.now c.args.seq c.args.transcript)) c.put-made.result c.keep.new.refusal = record {
+      unrefused = ap (λ (core : Core). core.refusal) c.self.view_is ∙ c.in_ok-at.ensures.unrefused;
+      may = subst (λ (core : Core). MayPut core.sheet.events c.args.by (record { path = c.args.path.now; seq = c.args.seq; what = Changed })) (sym c.self.view_is) c.requires.may;
+      ok = c.put-made.ensures.ok;
+      err = c.put-made.ensures.refused;
+      kept = c.keep.ensures.ok;
+      told = told-as c.put-made.result c.keep.new.refusal c.args.by _ _ _ _ place c.put-tried.ensures c.keep.ensures.err;
+    } in
+    IsCatalog-step old _ _ _ c.put-made.result c.keep.new.refusal step c.self.invariant

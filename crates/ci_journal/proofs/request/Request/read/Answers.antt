@@ -13,7 +13,7 @@ returns-in-Ok c =
     record {
       ok = IfOk-weaker c.read_text.result (λ request. request ≡ text_request c.in-Ok.text.now) (λ request. request ≡ request_of c.args.line.now) (λ request e. e ∙ same) c.read_text.ensures;
       askable = IfOk-weaker c.read_text.result (λ request. request ≡ text_request c.in-Ok.text.now) IsAskable
-          (λ request e. subst IsAskable (sym (e ∙ same)) (IsAskable-request_of c.args.line.now)) c.read_text.ensures;
+          (λ request e. subst IsAskable (sym (e ∙ same)) (IsAskable-request_of c.args.line.now c.requires.short)) c.read_text.ensures;
     }
 
 pub returns-in-Err : goal.returns-in-Err

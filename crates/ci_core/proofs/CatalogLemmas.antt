@@ -1,0 +1,288 @@
+-- What the catalogue keeps of a step, whose refusal is kept.
+use Rattle.std.proofs.Common.{arith, ◌≡◌, ◌∙◌, ⊎_elim, inl, inr, ℕ, ◌<◌, List, [], ◌∷◌, ◌++◌, length, take, slice_get, fold, Option, Some, None, Result, Ok, Err, OnOk, IfOk, IfErr, option_to_list, refl, ap, sym, subst, length-append, append_assoc}
+use Rattle.std.specs.Io.KnownBytes.{Appends, Keeps}
+use Rattle.std.specs.Option.{option_map}
+use Rattle.std.proofs.lemmas.List.{take-append-le, take_all}
+use Rattle.std.proofs.lemmas.List.Sums.{fold-append}
+use Rattle.ci_io.specs.Causes.{Rose}
+use Rattle.ci_change.specs.declared.notice.Notice.{Notice}
+use Rattle.ci_journal.specs.declared.event.Event.{Event}
+use Rattle.ci_journal.specs.declared.event.Happened.{Happened}
+use Rattle.ci_journal.specs.declared.event.Happened.TheVariants.{Asked, Noted, Put, Erased, Begun, BatchDone, Opened, Answered, Said}
+use Rattle.ci_journal.specs.Printed.{lines_of, printed}
+use Rattle.ci_journal.specs.Bytes.{journal_bytes}
+use Rattle.ci_journal.specs.Completions.{numbered, with_path}
+use Rattle.ci_journal.specs.Folds.{notice_in, notices, unopened}
+use Rattle.ci_journal.specs.Step.{May}
+use Rattle.ci_journal.proofs.FoldsLemmas.{notices-push, printed-push, slice_get-push}
+use Rattle.ci_core.specs.declared.core_fault.CoreFault.{CoreFault}
+use Rattle.ci_core.specs.declared.core_fault.CoreFault.TheVariants.{TooManyDocuments, JournalFull, OutOfMemory, WriteFault, Ended}
+use Rattle.ci_core.specs.declared.refusal.Refusal.{Refusal}
+use Rattle.ci_core.specs.Catalog.{CausedBy, IsCatalog, NumbersAfter, NumbersNoted, NumbersUnless}
+use Rattle.ci_core.specs.declared.question.Question.{Question}
+use Rattle.ci_core.specs.Changes.{Adds, Breaks, Stays, event}
+use Rattle.ci_core.specs.Core.{Core}
+use Rattle.ci_core.specs.Fixed.{Fixed, HasFixed, KeepsFixed, PrintsAfter, PrintsAll, PrintsAt, PrintsCut}
+use Rattle.ci_core.specs.Refusal.{tried_at}
+use Rattle.ci_core.specs.Refusals.{Halts, IsCrowded, Refuses}
+use Rattle.ci_core.specs.Sheet.{Sheet}
+use Rattle.ci_core.specs.Opening.{OpensFirst, RefusesOpening}
+use Rattle.ci_core.specs.Steps.{Makes, Rests, Told, with_noted}
+use Rattle.ci_core.proofs.HaltsLemmas.{Stays-refl, Told-refl}
+
+-- a step that adds an event was made or refused, and a refusal is kept
+pub record IsStep {T : Type 0} (before made : Core) (earlier : Option Refusal) (event : Event) (result : Result T CoreFault) (refusal : Option Refusal) : Type 0 where
+  pub unrefused : earlier ≡ None
+  pub may : May before.terms before.sheet.events event.by event.what
+  pub ok : OnOk result (Makes before made event)
+  pub err : IfErr result (Halts before made event)
+  pub kept : OnOk result (refusal ≡ earlier)
+  pub told : IfErr result (λ fault. refusal ≡ Some (record { by = event.by; at = length before.sheet.events; fault = fault; tried = tried_at fault event.what }))
+
+-- a refusal that is kept at a place, of what was tried
+pub told-as : {T : Type 0} (result : Result T CoreFault) (refusal : Option Refusal) (by at there : ℕ) (tried what : Happened) → at ≡ there → tried ≡ what
+    → IfErr result (λ fault. refusal ≡ Some (record { by = by; at = at; fault = fault; tried = tried_at fault tried }))
+    → IfErr result (λ fault. refusal ≡ Some (record { by = by; at = there; fault = fault; tried = tried_at fault what }))
+told-as result refusal by at there tried what place same told =
+    subst (λ (n : ℕ). IfErr result (λ fault. refusal ≡ Some (record { by = by; at = n; fault = fault; tried = tried_at fault what }))) place
+    (subst (λ (w : Happened). IfErr result (λ fault. refusal ≡ Some (record { by = by; at = at; fault = fault; tried = tried_at fault w }))) same told)
+
+-- what was made under the number that was answered
+pub made-as : {T : Type 0} (number : T → ℕ) (there : ℕ) (P : ℕ → Type 0) (result : Result T CoreFault) → IfOk result (λ x. number x ≡ there) → IfOk result (λ x. P (number x)) → OnOk result (P there)
+made-as number there P (Ok x) same made = subst P same made
+made-as number there P (Err fault) same made = tt
+
+-- ---- the paths that are numbered
+
+numbered-push : (journal : List Event) (e : Event) → numbered (journal ++ e ∷ []) ≡ with_noted (numbered journal) e.what
+numbered-push journal e =
+    ap (λ ns. fold (λ so_far (n : Notice). with_path so_far n.path) [] ns) (notices-push journal e)
+    ∙ fold-append (λ so_far (n : Notice). with_path so_far n.path) [] (notices journal) (option_to_list (notice_in e.what))
+
+pub noted-now : (core : Core) → NumbersAfter core core.refusal → core.refusal ≡ None → NumbersNoted core
+noted-now core numbers none = subst (NumbersAfter core) none numbers
+
+-- ---- the cause of a refusal
+
+caused : (old made : Core) (event : Event) (fault : CoreFault) (refusal : Option Refusal) → May old.terms old.sheet.events event.by event.what → Halts old made event fault
+    → CausedBy (record made { refusal = refusal }) event.by (length old.sheet.events) fault (tried_at fault event.what)
+caused old made event TooManyDocuments refusal may halts = (
+  ap length (sym halts.1.1.events),
+  record {
+    may = rw (halts.0.terms, halts.1.1.events) may;
+    notice = halts.1.0.notice;
+    notes = halts.1.0.notes;
+    new_path = rw halts.1.2 halts.1.0.new_path;
+    many = rw (halts.0.most, halts.1.2) halts.1.0.many;
+  },
+)
+caused old made event (JournalFull used more) refusal may halts = (
+  ap length (sym halts.1.0.stays.events),
+  record {
+    may = rw (halts.0.terms, halts.1.0.stays.events) may;
+    counted = halts.1.0.counted ∙ ap journal_bytes (sym halts.1.0.stays.events);
+    wanted = halts.1.0.wanted;
+    over = rw halts.1.0.stays.limit halts.1.0.over;
+  },
+)
+caused old made event OutOfMemory refusal may halts = ap length (sym halts.1.stays.events)
+caused old made event WriteFault refusal may halts =
+    let events = halts.1.0.events in
+    record {
+      may = rw (halts.0.terms, events, take-append-le (length old.sheet.events) old.sheet.events (event ∷ []) (omega arith), take_all (length old.sheet.events) old.sheet.events (omega arith)) may;
+      last = rw events (slice_get-push old.sheet.events event);
+      place = rw events (omega (arith, length-append old.sheet.events (event ∷ [])));
+    }
+caused old made event Ended refusal may halts = absurd halts.1
+
+-- no step changes the bound
+limit-refused : (old made : Core) (event : Event) (fault : CoreFault) → Halts old made event fault → made.sheet.limit ≡ old.sheet.limit
+limit-refused old made event TooManyDocuments halts = halts.1.1.limit
+limit-refused old made event (JournalFull used more) halts = halts.1.0.stays.limit
+limit-refused old made event OutOfMemory halts = halts.1.stays.limit
+limit-refused old made event WriteFault halts = halts.1.0.limit
+limit-refused old made event Ended halts = absurd halts.1
+
+-- what prints notes nothing
+prints-unnoted : (what : Happened) → 0 < length (lines_of what) → notice_in what ≡ None
+prints-unnoted (Asked id request) some = refl
+prints-unnoted (Noted notice) some = absurd (omega (arith, some))
+prints-unnoted (Put path seq transcript) some = refl
+prints-unnoted (Erased path seq) some = refl
+prints-unnoted (Begun batch) some = refl
+prints-unnoted (BatchDone number outcomes) some = refl
+prints-unnoted (Opened id) some = refl
+prints-unnoted (Answered id at paths) some = refl
+prints-unnoted (Said id reply) some = refl
+
+numbers-refused : (old made : Core) (event : Event) (fault : CoreFault) (refusal : Option Refusal) → NumbersNoted old → Halts old made event fault → NumbersUnless (record made { refusal = refusal }) fault
+numbers-refused old made event TooManyDocuments refusal noted halts = halts.1.2 ∙ noted ∙ ap numbered (sym halts.1.1.events)
+numbers-refused old made event (JournalFull used more) refusal noted halts = halts.1.1 ∙ noted ∙ ap numbered (sym halts.1.0.stays.events)
+numbers-refused old made event OutOfMemory refusal noted halts = tt
+numbers-refused old made event WriteFault refusal noted halts =
+    let cut = halts.1.0.written in
+    let unnoted = prints-unnoted event.what (omega (arith, cut.1)) in
+    halts.1.1 ∙ noted ∙ sym (ap numbered halts.1.0.events ∙ numbered-push old.sheet.events event
+    ∙ ap (λ (o : Option Notice). fold (λ so_far (n : Notice). with_path so_far n.path) (numbered old.sheet.events) (option_to_list o)) unnoted)
+numbers-refused old made event Ended refusal noted halts = absurd halts.1
+
+-- refusals that are kept change nothing of what the step left
+module _ (old made : Core) (earlier refusal : Option Refusal) (event : Event) where
+  abbrev held : Core
+  held = record old { refusal = earlier }
+
+  abbrev after : Core
+  after = record made { refusal = refusal }
+
+  told-kept : Told old made → Told held after
+  told-kept told = record { terms = told.terms; most = told.most }
+
+  crowded-kept : IsCrowded old event → IsCrowded held event
+  crowded-kept crowded = record { notice = crowded.notice; notes = crowded.notes; new_path = crowded.new_path; many = crowded.many }
+
+  Halts-kept : (fault : CoreFault) → Halts old made event fault → Halts held after event fault
+  Halts-kept TooManyDocuments halts = (told-kept halts.0, (crowded-kept halts.1.0, halts.1.1, halts.1.2))
+  Halts-kept (JournalFull used more) halts = (told-kept halts.0, halts.1)
+  Halts-kept OutOfMemory halts = (told-kept halts.0, halts.1)
+  Halts-kept WriteFault halts = (told-kept halts.0, halts.1)
+  Halts-kept Ended halts = absurd halts.1
+
+-- ---- what is printed
+
+printed-keeps : (first before now : Option (List ℕ)) (bytes : List ℕ) → Appends first before bytes → Keeps before now → Appends first now bytes
+printed-keeps None before now bytes appends keeps = tt
+printed-keeps (Some xs) None now bytes appends keeps = absurd appends
+printed-keeps (Some xs) (Some ys) None bytes appends keeps = absurd keeps
+printed-keeps (Some xs) (Some ys) (Some zs) bytes appends keeps = keeps ∙ appends
+
+printed-more : (first before now : Option (List ℕ)) (bytes more : List ℕ) → Appends first before bytes → Appends before now more → Appends first now (bytes ++ more)
+printed-more None before now bytes more appends then = tt
+printed-more (Some xs) None now bytes more appends then = absurd appends
+printed-more (Some xs) (Some ys) None bytes more appends then = absurd then
+printed-more (Some xs) (Some ys) (Some zs) bytes more appends then = then ∙ ap (λ b. b ++ more) appends ∙ append_assoc xs bytes more
+
+pub prints-stays : (fixed : Fixed) (old new : Sheet) → PrintsAll fixed old → Stays old new → PrintsAll fixed new
+prints-stays fixed old new prints stays = record {
+  written = rw stays.events (printed-keeps fixed.written old.written new.written (printed old.events) prints.written stays.written);
+  faults = stays.faults ∙ prints.faults;
+}
+
+prints-adds : (fixed : Fixed) (old new : Sheet) (event : Event) → PrintsAll fixed old → Adds old new event → PrintsAll fixed new
+prints-adds fixed old new event prints adds = record {
+  written = rw (adds.events, printed-push old.events event) (printed-more fixed.written old.written new.written (printed old.events) (lines_of event.what) prints.written adds.written);
+  faults = adds.faults ∙ prints.faults;
+}
+
+prints-breaks : (fixed : Fixed) (old new : Sheet) (event : Event) → PrintsAll fixed old → Breaks old new event → PrintsCut fixed new
+prints-breaks fixed old new event prints breaks = record {
+  front = old.events;
+  last = event;
+  events = breaks.events;
+  count = breaks.written.0;
+  short = breaks.written.1;
+  written = printed-more fixed.written old.written new.written (printed old.events) (take breaks.written.0 (lines_of event.what)) prints.written breaks.written.2;
+  rose = subst (λ faults. Rose faults new.faults) prints.faults breaks.rose;
+}
+
+prints-refused : (fixed : Fixed) (old made : Core) (event : Event) (fault : CoreFault) → PrintsAll fixed old.sheet → Halts old made event fault → PrintsAt fixed made.sheet fault
+prints-refused fixed old made event TooManyDocuments prints halts = prints-stays fixed old.sheet made.sheet prints halts.1.1
+prints-refused fixed old made event (JournalFull used more) prints halts = prints-stays fixed old.sheet made.sheet prints halts.1.0.stays
+prints-refused fixed old made event OutOfMemory prints halts = prints-stays fixed old.sheet made.sheet prints halts.1.stays
+prints-refused fixed old made event WriteFault prints halts = prints-breaks fixed old.sheet made.sheet event prints halts.1.0
+prints-refused fixed old made event Ended prints halts = absurd halts.1
+
+-- ---- the step as a whole
+
+module _ {T : Type 0} (old made : Core) (earlier : Option Refusal) (event : Event) (result : Result T CoreFault) (refusal : Option Refusal) (step : IsStep old made earlier event result refusal) where
+  abbrev refusal_at : CoreFault → Option Refusal
+  refusal_at fault = Some (record { by = event.by; at = length old.sheet.events; fault = fault; tried = tried_at fault event.what })
+
+  abbrev Told_at : CoreFault → Type 0
+  Told_at fault = refusal ≡ refusal_at fault
+
+  pub Refuses-step : IfErr result (Refuses (record old { refusal = earlier }) (record made { refusal = refusal }) event)
+  Refuses-step = by result step.err step.told
+    where
+      by : (r : Result T CoreFault) → IfErr r (Halts old made event) → IfErr r Told_at → IfErr r (Refuses (record old { refusal = earlier }) (record made { refusal = refusal }) event)
+      by (Ok x) halts told = tt
+      by (Err fault) halts told = inr (record { unrefused = step.unrefused; may = step.may; halts = Halts-kept old made earlier refusal event fault halts; kept = told })
+
+  pub IsCatalog-step : IsCatalog (record old { refusal = earlier }) → IsCatalog (record made { refusal = refusal })
+  IsCatalog-step catalog = by result step.ok step.err step.kept step.told
+    where
+      noted : NumbersNoted old
+      noted = noted-now (record old { refusal = earlier }) catalog.numbered step.unrefused
+
+      by : (r : Result T CoreFault) → OnOk r (Makes old made event) → IfErr r (Halts old made event) → OnOk r (refusal ≡ earlier) → IfErr r Told_at → IsCatalog (record made { refusal = refusal })
+      by (Ok x) makes halts kept told =
+          rw (kept, step.unrefused) (record {
+            numbered = makes.numbered ∙ ap (λ ns. with_noted ns event.what) noted ∙ sym (ap numbered makes.adds.events ∙ numbered-push old.sheet.events event);
+            cause = tt;
+          })
+      by (Err fault) makes halts kept told =
+          rw told (record {
+            numbered = numbers-refused old made event fault (refusal_at fault) noted halts;
+            cause = caused old made event fault (refusal_at fault) step.may halts;
+          })
+
+  pub KeepsFixed-step : KeepsFixed (record old { refusal = earlier }) (record made { refusal = refusal })
+  KeepsFixed-step fixed has = by result step.ok step.err step.kept step.told
+    where
+      prints : PrintsAll fixed old.sheet
+      prints = subst (PrintsAfter fixed old.sheet) step.unrefused has.prints
+
+      by : (r : Result T CoreFault) → OnOk r (Makes old made event) → IfErr r (Halts old made event) → OnOk r (refusal ≡ earlier) → IfErr r Told_at → HasFixed fixed (record made { refusal = refusal })
+      by (Ok x) makes halts kept told =
+          rw (kept, step.unrefused) (record {
+            limit = makes.adds.limit ∙ has.limit;
+            most = makes.told.most ∙ has.most;
+            terms = makes.told.terms ∙ has.terms;
+            prints = prints-adds fixed old.sheet made.sheet event prints makes.adds;
+          })
+      by (Err fault) makes halts kept told =
+          rw told (record {
+            limit = limit-refused old made event fault halts ∙ has.limit;
+            most = halts.0.most ∙ has.most;
+            terms = halts.0.terms ∙ has.terms;
+            prints = prints-refused fixed old made event fault prints halts;
+          })
+
+-- ---- erasing and opening
+
+pub Rests-refl : (core : Core) → Rests core core
+Rests-refl core = record { stays = Stays-refl core.sheet; told = Told-refl core; numbered = refl }
+
+-- the first query that waits, by its request
+pub first-of : (first : Option (ℕ × List ℕ)) (id : ℕ) → Some id ≡ option_map (λ q. q.0) first → (word : List ℕ) × (first ≡ Some (id, word))
+first-of None id e = absurd (cc)
+first-of (Some q) id e = let same : id ≡ q.0 = cc in (q.1, ap (λ (n : ℕ). Some (n, q.1)) (sym same))
+
+pub none-waits : (waits : List (ℕ × List ℕ)) → None ≡ option_map (λ (q : ℕ × List ℕ). q.0) (slice_get waits 0) → waits ≡ []
+none-waits [] e = refl
+none-waits (q ∷ waits) e = absurd (cc)
+
+same_first : (first : Option (ℕ × List ℕ)) (id other : ℕ) (word more : List ℕ) → first ≡ Some (id, word) → first ≡ Some (other, more) → id ≡ other
+same_first None id other word more e f = absurd (cc)
+same_first (Some q) id other word more e f =
+    let one : q ≡ (id, word) = cc in
+    let two : q ≡ (other, more) = cc in
+    sym (ap (λ (p : ℕ × List ℕ). p.0) one) ∙ ap (λ (p : ℕ × List ℕ). p.0) two
+
+-- opening the first query that waits adds its event
+pub opening-made : (old new : Core) (by id : ℕ) (word : List ℕ) (result : Result (Option Question) CoreFault) → slice_get (unopened old.sheet.events) 0 ≡ Some (id, word) → IfOk result (OpensFirst old new by)
+    → OnOk result (Makes old new (event by (Opened id)))
+opening-made old new by id word (Err fault) first opens = tt
+opening-made old new by id word (Ok None) first opens =
+    let none : slice_get (unopened old.sheet.events) 0 ≡ None = ap (λ qs. slice_get qs 0) opens.0 in absurd (cc)
+opening-made old new by id word (Ok (Some question)) first opens =
+    subst (λ (n : ℕ). Makes old new (event by (Opened n))) (same_first _ question.id id question.word word opens.first first) opens.makes
+
+-- and its refusal is that of this event
+pub RefusesOpening-of : {T : Type 0} (old new : Core) (by id : ℕ) (result : Result T CoreFault) → IfErr result (Refuses old new (event by (Opened id))) → IfErr result (RefusesOpening old new by)
+RefusesOpening-of old new by id (Ok x) refused = tt
+RefusesOpening-of old new by id (Err fault) refused = ⊎_elim (λ over. inl over) (λ first. inr (id, first)) refused
+
+pub halts-first : {T : Type 0} (P : ℕ → CoreFault → Type 0) (first : Option (ℕ × List ℕ)) (id : ℕ) (word : List ℕ) (result : Result T CoreFault)
+    → IfErr result (λ fault. (i : ℕ) (w : List ℕ) → first ≡ Some (i, w) → P i fault) → first ≡ Some (id, word) → IfErr result (P id)
+halts-first P first id word (Ok x) halts is = tt
+halts-first P first id word (Err fault) halts is = halts id word is

@@ -1,0 +1,178 @@
+-- The batches that are out in a run: their numbers ascend, and their documents were noted.
+use Rattle.std.proofs.Common.{arith, ◌≡◌, ◌∙◌, ◌==◌, ◌||◌, ℕ, ◌+◌, ◌≤◌, ◌<◌, Bool, true, false, not, List, [], ◌∷◌, ◌++◌, All, Contains, bytes_eq, filter, flat_map, length, take, option_to_list, ⊎_elim, refl, ap, sym, subst, append-nil, length-append}
+use Rattle.std.proofs.lemmas.Bool.Decides.{nat_tests}
+use Rattle.std.proofs.lemmas.List.Elements.{All-contains, All-contains_itself, All-filter, All-map, All-push, All-take, All-weaker}
+use Rattle.std.proofs.lemmas.List.Folds.{list_any-append, list_any_at}
+use Rattle.std.proofs.lemmas.Slice.Eq.{bytes_eq-Decides}
+use Rattle.std.specs.List.{AllByRecursion}
+use Rattle.ci_base.specs.declared.numbers.Seq.{Seq}
+use Rattle.ci_change.specs.declared.batch.Batch.{Batch}
+use Rattle.ci_change.specs.declared.notice.Notice.{Notice}
+use Rattle.ci_change.specs.HandedIn.{was_noted}
+use Rattle.ci_change.specs.Pending.{docs_of, is_free, is_pending}
+use Rattle.ci_keys.proofs.OneForm.{Contains-cons_cases, none_in_empty}
+use Rattle.ci_journal.specs.declared.event.Event.{Event}
+use Rattle.ci_journal.specs.declared.event.Happened.{Happened}
+use Rattle.ci_journal.specs.declared.event.Happened.TheVariants.{Asked, Noted, Put, Erased, Begun, BatchDone, Opened, Answered, Said}
+use Rattle.ci_journal.specs.Completions.{Filings, begun, begun_in, completed, docs_out, file_event, filings, free, numbers_of, out, pending, without_number}
+use Rattle.ci_journal.specs.Folds.{notices, notice_in}
+use Rattle.ci_journal.specs.Step.{May, Run}
+use Rattle.ci_journal.specs.Step.Run.{Empty, Next}
+use Rattle.ci_journal.specs.Terms.{Terms}
+use Rattle.ci_journal.proofs.FoldsLemmas.{begun-push, filings-push, notices-push}
+
+-- each batch has a number below those behind it, and all are at most so many
+abbrev Ascend : ℕ → List Batch → Type 0
+Ascend most [] = Unit {0}
+Ascend most (b ∷ bs) = AllByRecursion (λ (c : Batch). b.number < c.number) bs × (b.number ≤ most) × Ascend most bs
+
+Ascend-more : (most more : ℕ) (bs : List Batch) → most ≤ more → Ascend most bs → Ascend more bs
+Ascend-more most more [] within ascend = tt
+Ascend-more most more (b ∷ bs) within ascend = (ascend.0, omega (arith, within, ascend.1), Ascend-more most more bs within ascend.2)
+
+above-push : (n : ℕ) (bs : List Batch) (b : Batch) → AllByRecursion (λ (c : Batch). n < c.number) bs → n < b.number → AllByRecursion (λ (c : Batch). n < c.number) (bs ++ b ∷ [])
+above-push n [] b all above = (above, tt)
+above-push n (c ∷ bs) b all above = (all.0, above-push n bs b all.1 above)
+
+Ascend-push : (most : ℕ) (bs : List Batch) (b : Batch) → Ascend most bs → b.number ≡ most + 1 → Ascend (most + 1) (bs ++ b ∷ [])
+Ascend-push most [] b ascend next = (tt, omega (arith, next), tt)
+Ascend-push most (c ∷ bs) b ascend next =
+    (above-push c.number bs b ascend.0 (omega (arith, ascend.1, next)), omega (arith, ascend.1), Ascend-push most bs b ascend.2 next)
+
+above-filter : (n : ℕ) (test : Batch → Bool) (bs : List Batch) → AllByRecursion (λ (c : Batch). n < c.number) bs → AllByRecursion (λ (c : Batch). n < c.number) (filter test bs)
+above-filter n test [] all = tt
+above-filter n test (c ∷ bs) all = by (test c) refl (above-filter n test bs all.1)
+  where
+    by : (b : Bool) → test c ≡ b → AllByRecursion (λ (c : Batch). n < c.number) (filter test bs) → AllByRecursion (λ (c : Batch). n < c.number) (filter test (c ∷ bs))
+    by true passes rest = rw passes (all.0, rest)
+    by false fails rest = rw fails rest
+
+Ascend-filter : (most : ℕ) (test : Batch → Bool) (bs : List Batch) → Ascend most bs → Ascend most (filter test bs)
+Ascend-filter most test [] ascend = tt
+Ascend-filter most test (b ∷ bs) ascend = by (test b) refl (Ascend-filter most test bs ascend.2)
+  where
+    by : (t : Bool) → test b ≡ t → Ascend most (filter test bs) → Ascend most (filter test (b ∷ bs))
+    by true passes rest = rw passes (above-filter b.number test bs ascend.0, ascend.1, rest)
+    by false fails rest = rw fails rest
+
+-- ---- one batch has a number
+
+none_above : (n : ℕ) (bs : List Batch) → AllByRecursion (λ (c : Batch). n < c.number) bs → filter (λ (b : Batch). b.number == n) bs ≡ []
+none_above n [] all = refl
+none_above n (c ∷ bs) all = let apart : (c.number == n) ≡ false = grind (arith, nat_tests, all.0) in rw apart (none_above n bs all.1)
+
+above_of : (n : ℕ) (bs : List Batch) (b : Batch) → AllByRecursion (λ (c : Batch). n < c.number) bs → Contains bs b → n < b.number
+above_of n [] b all here = absurd (none_in_empty b here)
+above_of n (c ∷ bs) b all here = ⊎_elim (λ (first : c ≡ b). subst (λ (x : Batch). n < x.number) first all.0) (λ later. above_of n bs b all.1 later) (Contains-cons_cases c bs b here)
+
+-- the one batch that has the number of one
+pub only_number : (most : ℕ) (bs : List Batch) (b : Batch) → Ascend most bs → Contains bs b → filter (λ (c : Batch). c.number == b.number) bs ≡ b ∷ []
+only_number most [] b ascend here = absurd (none_in_empty b here)
+only_number most (c ∷ bs) b ascend here =
+    ⊎_elim
+    (λ (first : c ≡ b). subst (λ (x : Batch). filter (λ (d : Batch). d.number == x.number) (c ∷ bs) ≡ x ∷ []) first (own c bs (none_above c.number bs ascend.0)))
+    (λ later. let above = above_of c.number bs b ascend.0 later in let apart : (c.number == b.number) ≡ false = grind (arith, nat_tests, above) in rw apart (only_number most bs b ascend.2 later))
+    (Contains-cons_cases c bs b here)
+  where
+    own : (c : Batch) (bs : List Batch) → filter (λ (d : Batch). d.number == c.number) bs ≡ [] → filter (λ (d : Batch). d.number == c.number) (c ∷ bs) ≡ c ∷ []
+    own c bs none = let same : (c.number == c.number) ≡ true = grind (arith, nat_tests) in rw same (ap (λ ds. c ∷ ds) none)
+
+-- without the number that comes next nothing is taken away
+pub without_next : (most : ℕ) (bs : List Batch) (n : ℕ) → Ascend most bs → most < n → without_number bs n ≡ bs
+without_next most [] n ascend above = refl
+without_next most (b ∷ bs) n ascend above =
+    let apart : (b.number == n) ≡ false = grind (arith, nat_tests, ascend.1, above) in rw apart (ap (λ ds. b ∷ ds) (without_next most bs n ascend.2 above))
+
+-- a batch with the number that comes next, and that is taken away again
+pub without_last : (most : ℕ) (bs : List Batch) (last : Batch) → Ascend most bs → most < last.number → without_number (bs ++ last ∷ []) last.number ≡ bs
+without_last most [] last ascend above =
+    let same : (last.number == last.number) ≡ true = grind (arith, nat_tests) in rw same refl
+without_last most (b ∷ bs) last ascend above =
+    let apart : (b.number == last.number) ≡ false = grind (arith, nat_tests, ascend.1, above) in rw apart (ap (λ ds. b ∷ ds) (without_last most bs last ascend.2 above))
+
+-- ---- along a run
+
+out-push : (journal : List Event) (e : Event) → out (journal ++ e ∷ []) ≡ (file_event (filings journal) e.what).out
+out-push journal e = ap (λ (f : Filings). f.out) (filings-push journal e)
+
+ascends : (terms : Terms) (journal : List Event) (by : ℕ) (what : Happened) → May terms journal by what → Ascend (length (begun journal)) (out journal)
+    → Ascend (length (begun journal ++ option_to_list (begun_in what))) (file_event (filings journal) what).out
+ascends terms journal by (Asked id request) may ascend = rw (append-nil (begun journal)) ascend
+ascends terms journal by (Noted notice) may ascend = rw (append-nil (begun journal)) ascend
+ascends terms journal by (Put path seq transcript) may ascend = rw (append-nil (begun journal)) ascend
+ascends terms journal by (Erased path seq) may ascend = rw (append-nil (begun journal)) ascend
+ascends terms journal by (Begun batch) may ascend =
+    subst (λ n. Ascend n (out journal ++ batch ∷ [])) (sym (length-append (begun journal) (batch ∷ []))) (Ascend-push (length (begun journal)) (out journal) batch ascend may.next)
+ascends terms journal by (BatchDone number outcomes) may ascend = rw (append-nil (begun journal)) (Ascend-filter (length (begun journal)) (λ (b : Batch). not (b.number == number)) (out journal) ascend)
+ascends terms journal by (Opened id) may ascend = rw (append-nil (begun journal)) ascend
+ascends terms journal by (Answered id at paths) may ascend = rw (append-nil (begun journal)) ascend
+ascends terms journal by (Said id reply) may ascend = rw (append-nil (begun journal)) ascend
+
+pub out_ascends : (terms : Terms) (journal : List Event) → Run terms journal → Ascend (length (begun journal)) (out journal)
+out_ascends terms _ Empty = tt
+out_ascends terms _ (Next journal event run may) =
+    rw (begun-push journal event, out-push journal event) (ascends terms journal event.by event.what may (out_ascends terms journal run))
+
+-- ---- documents that are out were noted
+
+abbrev pub AreNoted : List Notice → List (List ℕ × Seq) → Type 0
+AreNoted notices docs = All (λ (d : List ℕ × Seq). was_noted notices d.0 ≡ true) docs
+
+abbrev AllNoted : List Notice → List Batch → Type 0
+AllNoted notices bs = All (λ (b : Batch). AreNoted notices b.docs) bs
+
+true_or : (b c : Bool) → b ≡ true → (b || c) ≡ true
+true_or true c e = refl
+true_or false c e = absurd (cc)
+
+noted_later : (notices : List Notice) (more : List Notice) (path : List ℕ) → was_noted notices path ≡ true → was_noted (notices ++ more) path ≡ true
+noted_later notices more path noted =
+    list_any-append (λ (n : Notice). bytes_eq n.path path) notices more ∙ true_or (was_noted notices path) (was_noted more path) noted
+
+AllNoted-later : (notices more : List Notice) (bs : List Batch) → AllNoted notices bs → AllNoted (notices ++ more) bs
+AllNoted-later notices more bs all =
+    All-weaker (λ (b : Batch). AreNoted notices b.docs) (λ (b : Batch). AreNoted (notices ++ more) b.docs)
+    (λ b noted. All-weaker (λ (d : List ℕ × Seq). was_noted notices d.0 ≡ true) (λ (d : List ℕ × Seq). was_noted (notices ++ more) d.0 ≡ true) (λ d n. noted_later notices more d.0 n) b.docs noted) bs all
+
+-- the free documents were noted
+free_noted : (journal : List Event) (most : ℕ) → AreNoted (notices journal) (docs_of (take most (free journal)))
+free_noted journal most =
+    All-map (λ (d : List ℕ × Seq). was_noted (notices journal) d.0 ≡ true) (λ (n : Notice). (n.path, n.seq)) (take most (free journal))
+    (All-take (λ (n : Notice). was_noted (notices journal) n.path ≡ true) most (free journal)
+    (All-filter (is_free (out journal)) (λ (n : Notice). was_noted (notices journal) n.path ≡ true) (pending journal)
+    (All-filter (is_pending (notices journal) (numbers_of (completed journal))) (λ (n : Notice). was_noted (notices journal) n.path ≡ true) (notices journal)
+    (All-weaker (Contains (notices journal)) (λ (n : Notice). was_noted (notices journal) n.path ≡ true)
+    (λ n here. list_any_at (λ (m : Notice). bytes_eq m.path n.path) (notices journal) here.0 n here.1 (subst (λ (m : Notice). bytes_eq m.path n.path ≡ true) (sym here.2) ((bytes_eq-Decides n.path n.path).1 refl)))
+    (notices journal) (All-contains_itself (notices journal))))))
+
+outs_noted : (terms : Terms) (journal : List Event) (by : ℕ) (what : Happened) → May terms journal by what → AllNoted (notices journal) (out journal)
+    → AllNoted (notices journal ++ option_to_list (notice_in what)) (file_event (filings journal) what).out
+outs_noted terms journal by (Asked id request) may all = AllNoted-later (notices journal) [] (out journal) all
+outs_noted terms journal by (Noted notice) may all = AllNoted-later (notices journal) (notice ∷ []) (out journal) all
+outs_noted terms journal by (Put path seq transcript) may all = AllNoted-later (notices journal) [] (out journal) all
+outs_noted terms journal by (Erased path seq) may all = AllNoted-later (notices journal) [] (out journal) all
+outs_noted terms journal by (Begun batch) may all =
+    AllNoted-later (notices journal) [] (out journal ++ batch ∷ []) (All-push (λ (b : Batch). AreNoted (notices journal) b.docs) (out journal) batch all (subst (AreNoted (notices journal)) (sym may.first) (free_noted journal may.most)))
+outs_noted terms journal by (BatchDone number outcomes) may all =
+    AllNoted-later (notices journal) [] (without_number (out journal) number) (All-filter (λ (b : Batch). not (b.number == number)) (λ (b : Batch). AreNoted (notices journal) b.docs) (out journal) all)
+outs_noted terms journal by (Opened id) may all = AllNoted-later (notices journal) [] (out journal) all
+outs_noted terms journal by (Answered id at paths) may all = AllNoted-later (notices journal) [] (out journal) all
+outs_noted terms journal by (Said id reply) may all = AllNoted-later (notices journal) [] (out journal) all
+
+pub out_noted : (terms : Terms) (journal : List Event) → Run terms journal → AllNoted (notices journal) (out journal)
+out_noted terms _ Empty = λ k d within. absurd (omega (arith, within))
+out_noted terms _ (Next journal event run may) =
+    rw (notices-push journal event, out-push journal event) (outs_noted terms journal event.by event.what may (out_noted terms journal run))
+
+-- ---- what a batch that is out says
+
+module _ (terms : Terms) (journal : List Event) (run : Run terms journal) (batch : Batch) (here : Contains (out journal) batch) where
+  -- its documents are those of its number
+  pub docs_out-is : docs_out (out journal) batch.number ≡ batch.docs
+  docs_out-is =
+      ap (λ bs. flat_map (λ (b : Batch). b.docs) bs) (only_number (length (begun journal)) (out journal) batch (out_ascends terms journal run) here)
+      ∙ append-nil batch.docs
+
+  -- and they were noted
+  pub docs_noted : AreNoted (notices journal) batch.docs
+  docs_noted = All-contains (λ (b : Batch). AreNoted (notices journal) b.docs) (out journal) batch (out_noted terms journal run) here

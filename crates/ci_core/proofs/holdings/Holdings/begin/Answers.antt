@@ -1,0 +1,61 @@
+use Rattle.std.proofs.Common.{arith, ◌∙◌, ap, refl, subst, sym}
+use Rattle.ci_journal.proofs.RunLemmas.{begun_within}
+use Rattle.ci_journal.specs.declared.event.Happened.TheVariants.{Begun}
+use Rattle.ci_change.specs.HandedIn.{without_batch}
+use Rattle.ci_core.specs.Batches.{IsNextBatch}
+use Rattle.ci_core.specs.Changes.{Adds, event}
+use Rattle.ci_core.proofs.BatchLemmas.{begun-kept, free_is, given_back, none-when, some-when, taken-next}
+use Rattle.ci_core.proofs.BeginningLemmas.{HaltsBeginning-of}
+use Rattle.ci_core.proofs.ChangesLemmas.{Adds-prepared}
+use Rattle.ci_core.proofs.HaltsLemmas.{Halts-from_LacksRoom, Stays-refl}
+use Rattle.ci_core.proofs.KeptLemmas.{IsHolding-stays, IsHolding-tracked, LacksRoom-stays}
+use Rattle.ci_core.proofs.holdings.Holdings.begin.Goals as goal
+
+pub overflow_add-number : goal.overflow_add-number
+overflow_add-number g c =
+    let kept = c.self.invariant.1 in
+    omega (arith, begun_within _ _ kept.run, kept.counts.begun, kept.within, kept.small)
+
+pub returns-then-is_empty-clause-ok : goal.returns-then-is_empty-clause-ok
+returns-then-is_empty-clause-ok g c =
+    let none = sym c.items.ensures ∙ none-when c.items.result.now c.if-is_empty.ensures in
+    rw (← c.self.view_is) (
+      sym (free_is _ _ _ c.self.invariant.1) ∙ c.in_ok-batch.ensures.empty.0 none,
+      record { stays = Stays-refl _; told = record { terms = refl; most = refl }; numbered = refl },
+    )
+
+next : (g : _) (c : goal.After-add g) → IsNextBatch c.self.inside.book.events c.args.max c.in_ok-batch.batch
+next g c =
+    taken-next _ _ _ c.self.invariant.1 c.args.max c.in_ok-batch.batch c.in_ok-batch.ensures.batch (some-when _ c.items.result.now c.items.ensures c.if-is_empty.ensures)
+
+next_refused : (g : _) (c : goal.After-drop-batch-in-Err-1 g) → IsNextBatch c.self.inside.book.events c.args.max c.in_ok-batch.batch
+next_refused g c =
+    taken-next _ _ _ c.self.invariant.1 c.args.max c.in_ok-batch.batch c.in_ok-batch.ensures.batch (some-when _ c.items.result.now c.items.ensures c.if-is_empty.ensures)
+
+added : (g : _) (c : goal.After-add g) → Adds c.ready_to_begin.new.book c.add.new.self (event c.args.by (Begun c.in_ok-batch.batch))
+added g c = subst (λ b. Adds c.ready_to_begin.new.book c.add.new.self (event c.args.by (Begun b))) c.in-Ok.ensures.batch c.add.ensures
+
+pub invariant_of-self-in-Ok : goal.invariant_of-self-in-Ok
+invariant_of-self-in-Ok g c =
+    (c.self.invariant.0, begun-kept _ _ _ c.self.invariant.1 _ _ c.args.by c.args.max c.in_ok-batch.batch _ (next g c) c.in-Ok.ensures.ok.stays c.in_ok-batch.ensures.out (added g c))
+
+pub invariant_of-self-in-Err-1 : goal.invariant_of-self-in-Err-1
+invariant_of-self-in-Err-1 g c =
+    let same = c.give_back.ensures ∙ ap (λ h. without_batch h c.in_ok-batch.batch.number) c.in_ok-batch.ensures.out ∙ given_back _ _ _ c.self.invariant.1 c.in_ok-batch.batch (next_refused g c).some (next_refused g c).number in
+    (c.self.invariant.0, IsHolding-tracked _ _ _ _ (IsHolding-stays _ _ _ _ c.self.invariant.1 (LacksRoom-stays _ _ _ _ c.in-Err.ensures.refused)) same)
+
+pub returns-in-Ok-clause-ok : goal.returns-in-Ok-clause-ok
+returns-in-Ok-clause-ok g c =
+    rw (← c.self.view_is) (
+      next g c,
+      record {
+        adds = Adds-prepared _ _ _ _ c.in-Ok.ensures.ok.stays (added g c);
+        told = record { terms = refl; most = refl };
+        numbered = refl;
+      },
+    )
+
+pub returns-in-Err-clause-refused : goal.returns-in-Err-clause-refused
+returns-in-Err-clause-refused g c =
+    rw (← c.self.view_is) (HaltsBeginning-of _ _ c.args.by c.args.max c.in_ok-batch.batch c.in-Err.fault _ _ c.of.ensures.fault c.of.ensures.tried (next_refused g c)
+    (Halts-from_LacksRoom _ _ (event c.args.by (Begun c.in_ok-batch.batch)) _ c.in-Err.fault c.self.invariant.1.small refl c.in-Err.ensures.refused (record { terms = refl; most = refl }) refl))

@@ -1,0 +1,52 @@
+-- Documents of a batch that are served, one after the other.
+use Rattle.std.specs.Prelude.{⊤, All, ◌≤◌, ◌++◌, ℕ, nat_lt, List, [], ◌∷◌, length, if◌then◌else◌}
+use Rattle.std.specs.FinMap as map_of_keys
+use Rattle.ci_base.specs.declared.numbers.Seq.{Seq}
+use Rattle.ci_change.specs.Pending.{served_number}
+use Rattle.ci_entry.specs.Entry.{entry_of, text_bytes}
+use Rattle.ci_keys.specs.Entry.{EntryLists}
+use Rattle.ci_journal.specs.declared.event.Event.{Event}
+use Rattle.ci_journal.specs.declared.event.Happened.{Happened}
+use Rattle.ci_journal.specs.declared.event.Happened.TheVariants.{Asked, Noted, Put, Erased, Begun, BatchDone, Opened, Answered, Said}
+use Rattle.ci_journal.specs.declared.outcome.Outcome.{Outcome}
+use Rattle.ci_journal.specs.declared.outcome.Outcome.TheVariants.{Done}
+use Rattle.ci_journal.specs.Served.{Served}
+
+-- the transcript of an outcome has few enough pieces and bytes to be indexed
+abbrev pub IsIndexable : Outcome → Type 0
+IsIndexable (Done transcript) = (length transcript ≤ 65536) × (text_bytes transcript ≤ 1048576)
+
+-- each transcript of an event can be indexed
+abbrev pub HasIndexable : Happened → Type 0
+HasIndexable (Asked id request) = ⊤
+HasIndexable (Noted notice) = ⊤
+HasIndexable (Put path seq transcript) = IsIndexable (Done transcript)
+HasIndexable (Erased path seq) = ⊤
+HasIndexable (Begun batch) = ⊤
+HasIndexable (BatchDone number outcomes) = All IsIndexable outcomes
+HasIndexable (Opened id) = ⊤
+HasIndexable (Answered id at paths) = ⊤
+HasIndexable (Said id reply) = ⊤
+
+abbrev pub AllIndexable : List Event → Type 0
+AllIndexable events = All (λ e. HasIndexable e.what) events
+
+-- the entry that an outcome comes to
+abbrev pub entry_from : List (List ℕ) → Outcome → EntryLists
+entry_from noise (Done transcript) = entry_of noise transcript
+
+-- the path gets the entry, where its number is above the path's served number
+abbrev pub serve_entry : Served → List ℕ × Seq → EntryLists → Served
+serve_entry served doc entry = record {
+  numbers = served.numbers ++ doc ∷ [];
+  documents = if nat_lt (served_number served.numbers doc.0) doc.1.0
+      then map_of_keys.insert served.documents doc.0 entry
+      else served.documents;
+}
+
+-- each document with its entry, in order
+abbrev pub serve_entries : Served → List (List ℕ × Seq) → List EntryLists → Served
+serve_entries served [] entries = served
+serve_entries served (doc ∷ docs) [] = served
+serve_entries served (doc ∷ docs) (entry ∷ entries) =
+    serve_entries (serve_entry served doc entry) docs entries

@@ -1,0 +1,55 @@
+ghost use Rattle.std.specs.Prelude.{◌≤◌, All, IfOk, IfErr, OnOk};
+ghost use Rattle.ci_journal.specs.declared.event.Happened.{Happened};
+ghost use Rattle.ci_core.specs.Batches.{Begins, CanFinish, RefusesBeginning};
+ghost use Rattle.ci_core.specs.Changes.{event};
+ghost use Rattle.ci_core.specs.Fixed.{KeepsFixed};
+ghost use Rattle.ci_core.specs.Refusals.{Refuses};
+ghost use Rattle.ci_core.specs.Serving.{IsIndexable};
+ghost use Rattle.ci_core.specs.Steps.{IsUnrefused, Makes};
+
+use crate::refusal::keep;
+use crate::{Catalog, CoreFault, Tried};
+use ci_change::Batch;
+use ci_io::Sink;
+use ci_journal::Outcomes;
+
+impl<K: Sink + Drop> Catalog<K> {
+    /// The first free documents are out as a batch, at most `max`, in the order in which they were
+    /// noted. None where none is free.
+    pub fn begin_batch(&mut self, by: u32, max: usize) -> Result<Option<Batch>, CoreFault>
+        requires { 1 ≤ max }
+        ensures ok { IfOk result (Begins self.old self.new by max) }
+        ensures unrefused { OnOk result (IsUnrefused self.old self.new) }
+        ensures refused { IfErr result (RefusesBeginning self.old self.new by max) }
+        ensures fixed { KeepsFixed self.old self.new }
+    {
+        let at = self.place()?;
+        match self.holdings.begin(by, max) {
+            Ok(batch) => Ok(batch),
+            Err(unbegun) => Err(unbegun.keep(&mut self.refusal, by, at)),
+        }
+    }
+
+    /// The batch is out no more, and each of its documents has its outcome: the document's entry
+    /// is that of its transcript, unless it was served under a later number.
+    pub fn finish_batch(
+        &mut self,
+        by: u32,
+        batch: &Batch,
+        outcomes: Outcomes,
+    ) -> Result<(), CoreFault>
+        requires may { CanFinish self.old.sheet.events by batch.now outcomes }
+        requires indexable { All IsIndexable outcomes }
+        ensures ok { OnOk result (Makes self.old self.new
+            (event by (Happened.BatchDone batch.now.number outcomes))) }
+        ensures unrefused { OnOk result (IsUnrefused self.old self.new) }
+        ensures refused { IfErr result (Refuses self.old self.new
+            (event by (Happened.BatchDone batch.now.number outcomes))) }
+        ensures fixed { KeepsFixed self.old self.new }
+    {
+        let at = self.place()?;
+        let tried = Tried::batch_done(batch.number, &outcomes);
+        let made = self.holdings.finish(by, batch, outcomes);
+        keep(&mut self.refusal, by, at, tried, made)
+    }
+}

@@ -1,0 +1,89 @@
+ghost use Rattle.std.specs.Prelude.{◌≡◌, ◌≤◌, All, IfOk, IfErr, OnOk};
+ghost use Rattle.ci_journal.specs.Bytes.{capped, event_bytes};
+ghost use Rattle.ci_core.specs.Batches.{Begins, CanFinish, HaltsBeginning};
+ghost use Rattle.ci_core.specs.Changes.{IsReady, LacksRoom, event};
+ghost use Rattle.ci_core.specs.Refusals.{Halts};
+ghost use Rattle.ci_core.specs.Serving.{IsIndexable};
+ghost use Rattle.ci_core.specs.Steps.{Makes};
+
+use crate::serving::{entries_of, make_places, serve_all};
+use crate::{Book, CoreFault, Holdings, Unbegun};
+use ci_change::Batch;
+use ci_io::Sink;
+use ci_journal::{Event, Happened, Outcomes, begun_bytes, done_bytes};
+use std::alloc::Global;
+
+impl<K: Sink + Drop> Holdings<K> {
+    /// The first free documents are out as a batch, at most `max`. None where none is free.
+    pub fn begin(&mut self, by: u32, max: usize) -> Result<Option<Batch>, Unbegun>
+        requires { 1 ≤ max }
+        ensures ok { IfOk result (Begins self.old self.new by max) }
+        ensures refused { IfErr result
+            (λ u. HaltsBeginning self.old self.new by max u.fault u.tried) }
+    {
+        let number = self.begun + 1;
+        let batch = self.changes.take_batch(number, max)?;
+        if batch.docs.items().is_empty() {
+            return Ok(None);
+        }
+        match ready_to_begin(self.alloc, &mut self.book, &batch) {
+            Ok(copied) => {
+                self.begun = number;
+                self.book.add(Event {
+                    by,
+                    what: Happened::Begun { batch: copied },
+                });
+                Ok(Some(batch))
+            }
+            Err(fault) => {
+                self.changes.give_back(&batch);
+                Err(Unbegun::of(fault, &batch))
+            }
+        }
+    }
+
+    /// The batch is out no more, and each of its documents has its outcome.
+    pub fn finish(&mut self, by: u32, batch: &Batch, outcomes: Outcomes) -> Result<(), CoreFault>
+        requires may { CanFinish self.old.sheet.events by batch.now outcomes }
+        requires indexable { All IsIndexable outcomes }
+        ensures ok { OnOk result (Makes self.old self.new
+            (event by (Happened.BatchDone batch.now.number outcomes))) }
+        ensures refused { IfErr result (Halts self.old self.new
+            (event by (Happened.BatchDone batch.now.number outcomes))) }
+    {
+        self.book.prepare(done_bytes(outcomes.items()))?;
+        let entries = entries_of(self.alloc, outcomes.items(), &self.noise)?;
+        make_places(self.alloc, &mut self.documents, batch.docs.items())?;
+        serve_all(
+            &mut self.changes,
+            &mut self.documents,
+            batch.docs.items(),
+            entries,
+        );
+        self.changes.give_back(batch);
+        self.book.add(Event {
+            by,
+            what: Happened::BatchDone {
+                number: batch.number,
+                outcomes,
+            },
+        });
+        Ok(())
+    }
+}
+
+// A copy of the batch, and room for the event that tells of it.
+fn ready_to_begin<K: Sink + Drop>(
+    alloc: Global,
+    book: &mut Book<K>,
+    batch: &Batch,
+) -> Result<Batch, CoreFault>
+    ensures batch { IfOk result (λ copied. copied ≡ batch.now) }
+    ensures ok { let bytes = capped (event_bytes (Happened.Begun batch.now)) in
+        OnOk result (IsReady book.old book.new bytes) }
+    ensures refused { let bytes = capped (event_bytes (Happened.Begun batch.now)) in
+        IfErr result (LacksRoom book.old book.new bytes) }
+{
+    book.prepare(begun_bytes(batch.docs.items()))?;
+    Ok(batch.copy(alloc)?)
+}

@@ -1,0 +1,119 @@
+ghost use Rattle.std.specs.Prelude.{◌≡◌, []};
+ghost use Rattle.ci_journal.specs.Step.{Run};
+ghost use Rattle.ci_core.specs.Serving.{AllIndexable};
+
+use crate::{Book, Replied, Settings, Waiting};
+use ci_change::ChangeList;
+use ci_documents::Documents;
+use ci_io::Sink;
+use ci_journal::Journal;
+use ci_paths::Numbers;
+use ci_words::NoiseList;
+use std::alloc::Global;
+use std::collections::{BTreeMap, VecDeque};
+use std::marker::Model;
+
+/// How often a document is to be tried.
+const RETRIES: u32 = 4;
+
+/// The documents, the notices of them that are pending, the queries that wait, and the journal of
+/// what happened to them, with the sink that replies are printed to.
+#[derive(Drop)]
+pub struct Holdings<K: Sink + Drop> {
+    pub(crate) alloc: Global,
+    pub(crate) noise: NoiseList,
+    pub(crate) most: u32,
+    pub(crate) book: Book<K>,
+    pub(crate) documents: Documents,
+    pub(crate) changes: ChangeList,
+    pub(crate) numbers: Numbers,
+    pub(crate) waiting: VecDeque<Waiting>,
+    pub(crate) replied: Replied,
+    pub(crate) requests: u64,
+    pub(crate) replies: u64,
+    pub(crate) noted: u64,
+    pub(crate) begun: u64,
+}
+
+impl<K: Sink + Drop> Model for Holdings<K> {
+    ghost use Rattle.std.specs.Prelude.{◌≡◌, None, map};
+    ghost use Rattle.ci_core.specs.Core.{Core};
+    ghost use Rattle.ci_core.specs.Kept.{IsHolding, Shelf};
+
+    ghost Value = { Core };
+
+    ghost view = { λ h. record {
+      sheet = h.book;
+      terms = record { noise = h.noise };
+      most = h.most;
+      numbered = map (λ e. e.0) h.numbers.numbered;
+      refusal = None;
+    } };
+
+    ghost invariant = { λ h. (h.numbers.limit ≡ h.most)
+        × IsHolding (record { noise = h.noise }) h.book (record {
+          documents = h.documents.entries;
+          changes = h.changes;
+          waiting = h.waiting.items;
+          marks = h.replied;
+          requests = h.requests;
+          replies = h.replies;
+          noted = h.noted;
+          begun = h.begun;
+        }) };
+}
+
+impl<K: Sink + Drop> Holdings<K> {
+    /// No document, and an empty journal.
+    pub fn new(alloc: Global, sink: K, settings: &Settings, noise: NoiseList) -> Holdings<K>
+        requires { noise ≡ settings.now.noise }
+        ensures events { result.sheet.events ≡ [] }
+        ensures limit { result.sheet.limit ≡ settings.now.journal }
+        ensures written { result.sheet.written ≡ K.written sink }
+        ensures faults { result.sheet.faults ≡ K.faults sink }
+        ensures noise { result.terms.noise ≡ settings.now.noise }
+        ensures most { result.most ≡ settings.now.documents }
+        ensures numbered { result.numbered ≡ [] }
+    {
+        Holdings {
+            alloc,
+            noise,
+            most: settings.documents,
+            book: Book::new(alloc, sink, settings.journal),
+            documents: BTreeMap::new(alloc),
+            changes: ChangeList::new(alloc, RETRIES),
+            numbers: Numbers::new(alloc, settings.documents),
+            waiting: VecDeque::new(alloc),
+            replied: Replied::new(alloc),
+            requests: 0,
+            replies: 0,
+            noted: 0,
+            begun: 0,
+        }
+    }
+
+    pub fn journal(&self) -> &Journal
+        ensures events { result.now.list ≡ self.now.sheet.events }
+        ensures run { Run self.now.terms result.now.list }
+        ensures indexable { AllIndexable result.now.list }
+    {
+        self.book.journal()
+    }
+
+    /// The words that are passed over.
+    pub fn noise(&self) -> &NoiseList
+        ensures { result.now ≡ self.now.terms.noise }
+    {
+        &self.noise
+    }
+
+    /// Hands out the journal and the sink, as they are.
+    pub fn close(self) -> (Journal, K)
+        ensures journal { result.0.list ≡ self.sheet.events }
+        ensures written { K.written result.1 ≡ self.sheet.written }
+        ensures faults { K.faults result.1 ≡ self.sheet.faults }
+        ensures run { Run self.terms result.0.list }
+    {
+        self.book.close()
+    }
+}

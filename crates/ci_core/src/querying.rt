@@ -1,0 +1,63 @@
+ghost use Rattle.std.specs.Prelude.{◌≡◌, ◌+◌, ℕ, List, Some, slice_get, IfOk, IfErr, OnOk};
+ghost use Rattle.ci_journal.specs.Folds.{unopened};
+ghost use Rattle.ci_journal.specs.Step.{MayAnswer};
+ghost use Rattle.ci_core.specs.Changes.{event};
+ghost use Rattle.ci_core.specs.Opening.{OpensFirst};
+ghost use Rattle.ci_core.specs.Refusals.{Halts};
+ghost use Rattle.ci_core.specs.Steps.{Makes};
+
+use crate::{CoreFault, Holdings, Question, waiting};
+use ci_documents::plain_list;
+use ci_io::Sink;
+use ci_journal::{EVENT_BYTES, Event, Happened, Paths};
+
+impl<K: Sink + Drop> Holdings<K> {
+    /// Opens the first query that waits, if one does.
+    pub fn open_query(&mut self, by: u32) -> Result<Option<Question>, CoreFault>
+        ensures ok { IfOk result (OpensFirst self.old self.new by) }
+        ensures refused { IfErr result (λ fault. (id : ℕ) (word : List ℕ)
+            → slice_get (unopened self.old.sheet.events) 0 ≡ Some (id, word)
+            → Halts self.old self.new (event by (Happened.Opened id)) fault) }
+    {
+        let Some(first) = waiting::first_waiting(&self.waiting) else {
+            return Ok(None);
+        };
+        // The word is copied here, and the want of memory for it told behind that of the bound.
+        let id = first.id;
+        let word = first.word.copy(self.alloc);
+        self.book.prepare(EVENT_BYTES)?;
+        let word = word?;
+        let plain = plain_list(self.alloc, &self.documents)?;
+        self.waiting.pop_front();
+        self.book.add(Event {
+            by,
+            what: Happened::Opened { id },
+        });
+        let at = self.book.journal().events().len() as u64;
+        Ok(Some(Question {
+            id,
+            at,
+            word,
+            plain,
+        }))
+    }
+
+    /// The hits of a query that is open are printed.
+    pub fn answer(&mut self, by: u32, id: u64, at: u64, paths: Paths) -> Result<(), CoreFault>
+        requires { MayAnswer self.old.terms self.old.sheet.events id at paths }
+        ensures ok { OnOk result
+            (Makes self.old self.new (event by (Happened.Answered id at paths))) }
+        ensures refused { IfErr result
+            (Halts self.old self.new (event by (Happened.Answered id at paths))) }
+    {
+        let event = Event {
+            by,
+            what: Happened::Answered { id, at, paths },
+        };
+        let lines = self.book.enter(self.alloc, event)?;
+        self.replied.mark(id);
+        self.replies += 1;
+        self.book.write(&lines)?;
+        Ok(())
+    }
+}

@@ -1,0 +1,86 @@
+ghost use Rattle.std.specs.Prelude.{◌≡◌, ◌+◌, ◌-◌, length, map, IfOk, IfNone, IfSome};
+ghost use Rattle.std.specs.FinMap.{entries};
+ghost use Rattle.std.specs.Option.{option_map};
+ghost use Rattle.ci_base.specs.declared.numbers.Seq.{Seq};
+ghost use Rattle.ci_change.specs.Pending.{ListsByPath};
+ghost use Rattle.ci_journal.specs.Completions.{pending};
+ghost use Rattle.ci_journal.specs.Folds.{asked, notices, is_replied, replied, unopened};
+ghost use Rattle.ci_journal.specs.Served.{live_map};
+ghost use Rattle.ci_journal.specs.Step.{MayErase};
+ghost use Rattle.std.specs.Prelude.{slice_get};
+
+use crate::{Holdings, waiting};
+use ci_base::{OutOfMemory, PathText, Seq};
+use ci_change::What;
+use ci_documents::paths_of;
+use ci_io::Sink;
+use ci_journal::{Notices, Paths};
+
+impl<K: Sink + Drop> Holdings<K> {
+    /// The number of the next request.
+    pub fn next_request(&self) -> u64
+        ensures { result ≡ length (asked self.now.sheet.events) + 1 }
+    {
+        self.requests + 1
+    }
+
+    /// The number of the next notice.
+    pub fn next_notice(&self) -> Seq
+        ensures { result ≡ record { 0 = length (notices self.now.sheet.events) + 1 } }
+    {
+        Seq(self.noted + 1)
+    }
+
+    /// The number of the path's deletion, if one is pending.
+    pub fn deletion(&self, path: &PathText) -> Option<Seq>
+        ensures some { IfSome result (MayErase self.now.sheet.events path.now) }
+        ensures none { IfNone result
+            ((seq : Seq) → ¬ MayErase self.now.sheet.events path.now seq) }
+    {
+        match self.changes.pending_of(path) {
+            Some((seq, What::Deleted)) => Some(seq),
+            Some((_, What::Changed)) => None,
+            None => None,
+        }
+    }
+
+    /// The number of the query that waits longest, if one waits.
+    pub fn first_waiting(&self) -> Option<u64>
+        ensures { result ≡ option_map (λ q. q.0) (slice_get (unopened self.now.sheet.events) 0) }
+    {
+        match waiting::first_waiting(&self.waiting) {
+            Some(first) => Some(first.id),
+            None => None,
+        }
+    }
+
+    /// The pending notices, in byte order of their paths.
+    pub fn pending(&self) -> Result<Notices, OutOfMemory>
+        ensures { IfOk result (λ list. ListsByPath (pending self.now.sheet.events) list) }
+    {
+        Ok(Notices::from(self.changes.pending()?))
+    }
+
+    /// The paths of the documents, in byte order.
+    pub fn paths(&self) -> Result<Paths, OutOfMemory>
+        ensures { IfOk result (λ paths. paths
+            ≡ map (λ d. d.0) (entries (live_map self.now.terms self.now.sheet.events))) }
+    {
+        paths_of(self.alloc, &self.documents)
+    }
+
+    /// How many requests have no reply.
+    pub fn waiting(&self) -> u64
+        ensures { result
+            ≡ length (asked self.now.sheet.events) - length (replied self.now.sheet.events) }
+    {
+        self.requests.saturating_sub(self.replies)
+    }
+
+    /// Whether the request was asked and has its reply.
+    pub fn replied(&self, id: u64) -> bool
+        ensures { result ≡ is_replied self.now.sheet.events id }
+    {
+        self.replied.has(id)
+    }
+}

@@ -1,0 +1,2 @@
+pub mod DocumentsLemmas
+pub mod WordLemmas

@@ -1,0 +1,170 @@
+-- All that the end of a session says.
+use Rattle.std.proofs.Common.{arith, ◌≡◌, ◌≢◌, ◌∙◌, ◌≤◌, ◌++◌, ℕ, List, [], length, Option, Some, None, inl, inr, refl, ap, sym, subst, append-nil}
+use Rattle.std.specs.Io.KnownBytes.{Appends}
+use Rattle.ci_io.specs.Causes.{Rose}
+use Rattle.ci_io.specs.Reading.{Reading, ahead}
+use Rattle.ci_change.specs.Pending.{latest_number, served_number}
+use Rattle.ci_journal.specs.declared.event.Event.{Event}
+use Rattle.ci_journal.specs.Bytes.{journal_bytes}
+use Rattle.ci_journal.specs.Completions.{completed, numbered, numbers_of}
+use Rattle.ci_journal.specs.declared.request.Request.TheVariants as request
+use Rattle.ci_journal.specs.Folds.{asked, last_of, notices, unopened}
+use Rattle.ci_journal.specs.Printed.{printed}
+use Rattle.ci_journal.specs.Step.{Run}
+use Rattle.ci_journal.specs.Step.Run.{Empty}
+use Rattle.ci_journal.specs.Terms.{Terms}
+use Rattle.ci_words.specs.Noise.{standard_noise}
+use Rattle.ci_core.specs.Core.{Core}
+use Rattle.ci_core.specs.Fixed.{Fixed, HasFixed}
+use Rattle.ci_server.specs.declared.status.Status.{Status}
+use Rattle.ci_server.specs.declared.status.Status.TheVariants.{Done, Usage, ReadFault, WriteFault, JournalFull, TooManyDocuments, OutOfMemory, EndlessLine}
+use Rattle.ci_server.specs.Course.{Course, IsTold}
+use Rattle.ci_server.specs.Progress.{Ends, FitsLine}
+use Rattle.ci_server.specs.Requests.{requests}
+use Rattle.ci_server.specs.Served.{IsBetween}
+use Rattle.ci_server.specs.Session.{EndsByQuit, AsksFirst, InTurns, Standard, EndsWellOrStarves, IsCrowdedAt, IsFullAt, ComesTooLong}
+use Rattle.ci_server.specs.Turns.Turns.{None as no_turns}
+use Rattle.ci_server.specs.Turns.{Turns}
+use Rattle.ci_server.proofs.ProgressLemmas.{Progress-none, Ends-stop}
+use Rattle.ci_server.proofs.SessionLemmas.{fits, has_now, whole, all_printed, bounded, cut_off, journal_full, crowded}
+use Rattle.ci_server.proofs.SourceLemmas.{all_lines, done, ends_at_quit, left_at_quit, taken_at_fault, taken_at_long, endless, read_fault}
+use Rattle.ci_server.proofs.StopLemmas.{StopsIn-starved}
+
+-- a catalogue that was just made
+pub IsBetween-fresh : (core : Core) → core.sheet.events ≡ [] → core.numbered ≡ [] → core.refusal ≡ None → IsBetween core
+IsBetween-fresh core fresh none_numbered unrefused = record {
+  sound = record {
+    unrefused = unrefused;
+    numbered = none_numbered ∙ ap numbered (sym fresh);
+    room = rw none_numbered (omega arith);
+    latest = λ path. subst (λ es. latest_number (notices es) path ≤ length (notices es)) (sym fresh) (omega arith);
+    served = λ path. subst (λ es. served_number (numbers_of (completed es)) path ≤ length (notices es)) (sym fresh) (omega arith);
+  };
+  within = subst (λ es. journal_bytes es ≤ core.sheet.limit) (sym fresh) (omega arith);
+  replied = λ earlier some below. absurd (let count : length (asked core.sheet.events) ≡ 0 = ap (λ es. length (asked es)) fresh in omega (arith, count, some, below));
+  all_opened = ap unopened fresh;
+}
+
+-- there was no memory for a reader
+pub Ends-unread : (first : Reading) (start : Core) → start.sheet.events ≡ [] → IsBetween start → Ends first start first start OutOfMemory
+Ends-unread first start fresh between =
+    Ends-stop first start first first start start OutOfMemory (Progress-none first start fresh between)
+    (StopsIn-starved (FitsLine (ahead first) start.sheet.events) start between.sound (inl refl))
+
+abbrev pub course : Fixed → Reading → Reading → Core → Status → Course
+course fixed first now core status = record {
+  terms = fixed.terms;
+  limit = fixed.limit;
+  most = fixed.most;
+  bytes = ahead first;
+  left = now.left;
+  read_faults = first.faults;
+  read_faults_after = now.faults;
+  written = fixed.written;
+  written_after = core.sheet.written;
+  write_faults = fixed.faults;
+  write_faults_after = core.sheet.faults;
+  status = status;
+  journal = core.sheet.events;
+}
+
+pub IsTold-ends : (first : Reading) (start : Core) (now : Reading) (core : Core) (fixed : Fixed) (status : Status) → HasFixed fixed start → Ends first start now core status → Run core.terms core.sheet.events
+    → IsTold (course fixed first now core status)
+IsTold-ends first start now core fixed status has ends run =
+    let at = λ (s : Status) (is : status ≡ s). subst (Ends first start now core) is ends in
+    let all = fits first start now core fixed has status ends in
+    record {
+      run = subst (λ (t : Terms). Run t core.sheet.events) (has_now first start now core fixed has status ends).terms run;
+      turns = all.turns;
+      whole = whole first start now core fixed has status ends;
+      lines = all.lines;
+      all_lines = λ is. all_lines first start now core (at Done is);
+      done = λ is. done first start now core (at Done is);
+      ends_at_quit = ends_at_quit first start now core status ends;
+      left_at_quit = λ is. left_at_quit first start now core (at Done is);
+      taken_at_fault = λ is. taken_at_fault first start now core (at ReadFault is);
+      taken_at_long = λ is. taken_at_long first start now core (at EndlessLine is);
+      all_printed = λ other. (all_printed first start now core fixed has status ends other).written;
+      cut_off = λ is. cut_off first start now core fixed has (at WriteFault is);
+      usage = λ is. at Usage is;
+      read_fault = λ is. read_fault first start now core (at ReadFault is);
+      write_fault = λ is. ((at WriteFault is).prints fixed has).rose;
+      journal_full = λ used more is. journal_full first start now core fixed has used more (at (JournalFull used more) is);
+      crowded = λ is. crowded first start now core fixed has (at TooManyDocuments is);
+      bounded = bounded first start now core fixed has status ends;
+      endless = λ is. endless first start now core (at EndlessLine is);
+    }
+
+-- what is handed out is what the session left
+pub IsTold-handed : (c : Course) (bytes left : Option (List ℕ)) (reads reads_after : ℕ) (written_after : Option (List ℕ)) (writes_after : ℕ) (status : Status) (journal : List Event)
+    → bytes ≡ c.bytes → left ≡ c.left → reads ≡ c.read_faults → reads_after ≡ c.read_faults_after → written_after ≡ c.written_after → writes_after ≡ c.write_faults_after → status ≡ c.status → journal ≡ c.journal → IsTold c
+    → IsTold (record c { bytes = bytes; left = left; read_faults = reads; read_faults_after = reads_after; written_after = written_after; write_faults_after = writes_after; status = status; journal = journal })
+IsTold-handed c bytes left reads reads_after written_after writes_after status journal b l r ra w wa s j told = rw (b, l, r, ra, w, wa, s, j) told
+
+-- ---- a session that did nothing
+
+pub run-idle : (terms : Terms) (journal : List Event) → journal ≡ [] → Run terms journal
+run-idle terms journal none = subst (Run terms) (sym none) Empty
+
+pub turns-idle : (journal : List Event) → journal ≡ [] → InTurns journal
+turns-idle journal none = record { whole = []; turns = ([], no_turns); front = []; events = none; cut = inl refl }
+
+pub lines-idle : (bytes : Option (List ℕ)) (journal : List Event) → journal ≡ [] → AsksFirst bytes journal
+lines-idle None journal none = tt
+lines-idle (Some all) journal none = (requests all, ap (λ es. asked es ++ requests all) (sym none))
+
+pub printed-idle : (written : Option (List ℕ)) (journal : List Event) → journal ≡ [] → Appends written written (printed journal)
+printed-idle None journal none = tt
+printed-idle (Some bytes) journal none = sym (append-nil bytes) ∙ ap (λ es. bytes ++ printed es) (sym none)
+
+pub quit-idle : (journal : List Event) → journal ≡ [] → EndsByQuit journal → ⊥
+quit-idle journal none quits = let never : None ≡ Some request.Quit = sym (ap (λ es. last_of (asked es)) none) ∙ quits in cc
+
+pub bounded-idle : (most : ℕ) (journal : List Event) → journal ≡ [] → length (numbered journal) ≤ most
+bounded-idle most journal none = subst (λ es. length (numbered es) ≤ most) (sym none) (omega arith)
+
+-- under the standard list itself
+pub Standard-own : (Holds : Terms → Type 0) → Holds (record { noise = standard_noise }) → Standard Holds
+Standard-own Holds holds = (standard_noise, λ word. (λ here. here, λ here. here), holds)
+
+-- for want of memory
+pub IsTold-idle : (c : Course) → c.journal ≡ [] → c.status ≡ OutOfMemory → c.written_after ≡ c.written → IsTold c
+IsTold-idle c none starves kept = record {
+  run = run-idle c.terms c.journal none;
+  turns = turns-idle c.journal none;
+  whole = λ _. ([], subst (λ es. Turns es []) (sym none) no_turns);
+  lines = lines-idle c.bytes c.journal none;
+  all_lines = λ is. absurd (cc);
+  done = λ is. absurd (cc);
+  ends_at_quit = λ quits _. absurd (quit-idle c.journal none quits);
+  left_at_quit = λ is. absurd (cc);
+  taken_at_fault = λ is. absurd (cc);
+  taken_at_long = λ is. absurd (cc);
+  all_printed = λ _. subst (λ w. Appends c.written w (printed c.journal)) (sym kept) (printed-idle c.written c.journal none);
+  cut_off = λ is. absurd (cc);
+  usage = λ is. absurd (cc);
+  read_fault = λ is. absurd (cc);
+  write_fault = λ is. absurd (cc);
+  journal_full = λ used more is. absurd (cc);
+  crowded = λ is. absurd (cc);
+  bounded = bounded-idle c.most c.journal none;
+  endless = λ is. absurd (cc);
+}
+
+-- ---- a session without any cause ends well
+
+good_status : (status : Status) → status ≢ Usage → status ≢ ReadFault → status ≢ WriteFault → ((used more : ℕ) → status ≢ JournalFull used more) → status ≢ TooManyDocuments → status ≢ EndlessLine → EndsWellOrStarves status
+good_status Done usage read write full many long = inl refl
+good_status OutOfMemory usage read write full many long = inr refl
+good_status Usage usage read write full many long = absurd (usage refl)
+good_status ReadFault usage read write full many long = absurd (read refl)
+good_status WriteFault usage read write full many long = absurd (write refl)
+good_status (JournalFull used more) usage read write full many long = absurd (full used more refl)
+good_status TooManyDocuments usage read write full many long = absurd (many refl)
+good_status EndlessLine usage read write full many long = absurd (long refl)
+
+pub complete : (c : Course) → IsTold c → (Rose c.read_faults c.read_faults_after → ⊥) → (Rose c.write_faults c.write_faults_after → ⊥) → ((used more : ℕ) → IsFullAt c.terms c.limit c.journal used more → ⊥)
+    → (IsCrowdedAt c.terms c.most c.journal → ⊥) → (ComesTooLong c.bytes c.journal → ⊥) → EndsWellOrStarves c.status
+complete c told read write full many long =
+    good_status c.status told.usage (λ is. read (told.read_fault is)) (λ is. write (told.write_fault is)) (λ used more is. full used more (told.journal_full used more is))
+    (λ is. many (told.crowded is)) (λ is. long (told.endless is))

@@ -1,0 +1,59 @@
+-- Where a session stops, and why.
+use Rattle.std.specs.Prelude.{◌≡◌, ◌<◌, ◌≤◌, ℕ, List, [], ◌∷◌, ◌++◌, None, length}
+use Rattle.ci_change.specs.Pending.{latest_number, served_number}
+use Rattle.ci_journal.specs.declared.event.Event.{Event}
+use Rattle.ci_journal.specs.Bytes.{event_bytes}
+use Rattle.ci_journal.specs.Completions.{completed, numbered, numbers_of}
+use Rattle.ci_journal.specs.Folds.{notices}
+use Rattle.ci_journal.specs.Printed.{lines_of}
+use Rattle.ci_journal.specs.Step.{May}
+use Rattle.ci_core.specs.declared.core_fault.CoreFault.{CoreFault}
+use Rattle.ci_core.specs.declared.core_fault.CoreFault.TheVariants.{TooManyDocuments, JournalFull, OutOfMemory, WriteFault, Ended}
+use Rattle.ci_core.specs.Changes.{IsFull}
+use Rattle.ci_core.specs.Core.{Core}
+use Rattle.ci_core.specs.Fixed.{Fixed, HasFixed, KeepsFixed, PrintsAt}
+use Rattle.ci_core.specs.Refusals.{IsCrowded}
+use Rattle.ci_core.specs.Steps.{Told}
+
+-- no step was refused so far: the numbered paths are those that were noted, and no more than may be; and no number of
+-- a notice, or of what was filed under it, is above the number of notices
+pub record IsSound (core : Core) : Type 0 where
+  pub unrefused : core.refusal ≡ None
+  pub numbered : core.numbered ≡ numbered core.sheet.events
+  pub room : length core.numbered ≤ core.most
+  pub latest : (path : List ℕ) →
+      latest_number (notices core.sheet.events) path ≤ length (notices core.sheet.events)
+  pub served : (path : List ℕ) →
+      served_number (numbers_of (completed core.sheet.events)) path ≤ length (notices core.sheet.events)
+
+-- what the catalogue was told, and what holds of it ever after, stays
+pub record Remains (old new : Core) : Type 0 where
+  pub limit : new.sheet.limit ≡ old.sheet.limit
+  pub told : Told old new
+  pub fixed : KeepsFixed old new
+
+-- the event may come next, and the journal fits with it
+pub record IsNext (Fits : List Event → Type 0) (core : Core) (event : Event) : Type 0 where
+  pub fits : Fits (core.sheet.events ++ event ∷ [])
+  pub may : May core.terms core.sheet.events event.by event.what
+
+-- the next event was refused, for this cause; want of memory may come of what the event needs first
+abbrev pub Halts : (List Event → Type 0) → Core → Core → CoreFault → Type 0
+Halts Fits old new TooManyDocuments =
+    (event : Event) × IsNext Fits old event × IsCrowded old event × (new.sheet.events ≡ old.sheet.events)
+Halts Fits old new (JournalFull used more) =
+    (event : Event) × IsNext Fits old event × IsFull old.sheet new.sheet (event_bytes event.what) used more
+Halts Fits old new OutOfMemory = new.sheet.events ≡ old.sheet.events
+Halts Fits old new WriteFault =
+    (event : Event) × IsNext Fits old event × (0 < length (lines_of event.what)) × (new.sheet.events ≡ old.sheet.events ++ event ∷ [])
+Halts Fits old new Ended = ⊥
+
+-- events were added, so that the journal fits, and then a step was refused
+pub record StopsIn (Fits : List Event → Type 0) (old new : Core) (fault : CoreFault) : Type 0 where
+  pub mid : Core
+  pub remains : Remains old mid
+  pub sound : IsSound mid
+  pub fits : Fits mid.sheet.events
+  pub halts : Halts Fits mid new fault
+  pub fixed : KeepsFixed old new
+  pub prints : (fixed : Fixed) → HasFixed fixed old → PrintsAt fixed new.sheet fault

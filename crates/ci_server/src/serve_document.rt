@@ -1,0 +1,66 @@
+ghost use Rattle.std.specs.Prelude.{◌≡◌, ◌≤◌, length, OnOk, IfErr};
+ghost use Rattle.ci_io.specs.declared.line.TheConstants.{LINE_BYTES};
+ghost use Rattle.ci_server.specs.Served.{IsJustAsked, ServesSteps, StopsSteps};
+
+use crate::FOREGROUND;
+use ci_base::{PathText, Text};
+use ci_chunk::Transcript;
+use ci_core::{Catalog, CoreFault};
+use ci_io::Sink;
+use ci_journal::{Reply, Request, What};
+use std::alloc::Global;
+
+/// Notes the change of the document.
+pub fn serve_changed<K: Sink + Drop>(
+    catalog: &mut Catalog<K>,
+    id: u64,
+    path: &PathText,
+) -> Result<(), CoreFault>
+    requires { IsJustAsked catalog.old id (Request.Changed path.now) }
+    ensures ok { OnOk result (ServesSteps catalog.old catalog.new id (Request.Changed path.now)) }
+    ensures err { IfErr result (StopsSteps catalog.old catalog.new id (Request.Changed path.now)) }
+{
+    let _seq = catalog.note(FOREGROUND, path, What::Changed)?;
+    catalog.say(FOREGROUND, id, Reply::Ok)?;
+    Ok(())
+}
+
+/// Notes the deletion of the document, and takes it away.
+pub fn serve_deleted<K: Sink + Drop>(
+    catalog: &mut Catalog<K>,
+    id: u64,
+    path: &PathText,
+) -> Result<(), CoreFault>
+    requires { IsJustAsked catalog.old id (Request.Deleted path.now) }
+    ensures ok { OnOk result (ServesSteps catalog.old catalog.new id (Request.Deleted path.now)) }
+    ensures err { IfErr result (StopsSteps catalog.old catalog.new id (Request.Deleted path.now)) }
+{
+    let _seq = catalog.note(FOREGROUND, path, What::Deleted)?;
+    let erased = catalog.erase(FOREGROUND, path)?;
+    // The deletion was just noted, so it is pending.
+    prove!(erased);
+    catalog.say(FOREGROUND, id, Reply::Ok)?;
+    Ok(())
+}
+
+/// Notes the change of the document, and takes the text as its filtering.
+pub fn serve_put<K: Sink + Drop>(
+    alloc: Global,
+    catalog: &mut Catalog<K>,
+    id: u64,
+    path: &PathText,
+    text: &Text,
+) -> Result<(), CoreFault>
+    requires short { length text.now ≤ LINE_BYTES }
+    requires asked { IsJustAsked catalog.old id (Request.Put path.now text.now) }
+    ensures ok { OnOk result
+        (ServesSteps catalog.old catalog.new id (Request.Put path.now text.now)) }
+    ensures err { IfErr result
+        (StopsSteps catalog.old catalog.new id (Request.Put path.now text.now)) }
+{
+    let seq = catalog.note(FOREGROUND, path, What::Changed)?;
+    let transcript = Transcript::plain(alloc, path, text.as_str())?;
+    catalog.put(FOREGROUND, path, seq, transcript)?;
+    catalog.say(FOREGROUND, id, Reply::Ok)?;
+    Ok(())
+}
