@@ -113,6 +113,30 @@ out_ascends terms _ Empty = tt
 out_ascends terms _ (Next journal event run may) =
     rw (begun-push journal event, out-push journal event) (ascends terms journal event.by event.what may (out_ascends terms journal run))
 
+-- ---- the batches that were begun
+
+begun_ascend : (terms : Terms) (journal : List Event) (by : ℕ) (what : Happened) → May terms journal by what → Ascend (length (begun journal)) (begun journal)
+    → Ascend (length (begun journal ++ option_to_list (begun_in what))) (begun journal ++ option_to_list (begun_in what))
+begun_ascend terms journal by (Asked id request) may ascend = rw (append-nil (begun journal)) ascend
+begun_ascend terms journal by (Noted notice) may ascend = rw (append-nil (begun journal)) ascend
+begun_ascend terms journal by (Put path seq transcript) may ascend = rw (append-nil (begun journal)) ascend
+begun_ascend terms journal by (Erased path seq) may ascend = rw (append-nil (begun journal)) ascend
+begun_ascend terms journal by (Begun batch) may ascend =
+    subst (λ n. Ascend n (begun journal ++ batch ∷ [])) (sym (length-append (begun journal) (batch ∷ []))) (Ascend-push (length (begun journal)) (begun journal) batch ascend may.next)
+begun_ascend terms journal by (BatchDone number outcomes) may ascend = rw (append-nil (begun journal)) ascend
+begun_ascend terms journal by (Opened id) may ascend = rw (append-nil (begun journal)) ascend
+begun_ascend terms journal by (Answered id at paths) may ascend = rw (append-nil (begun journal)) ascend
+begun_ascend terms journal by (Said id reply) may ascend = rw (append-nil (begun journal)) ascend
+
+begun_ascends : (terms : Terms) (journal : List Event) → Run terms journal → Ascend (length (begun journal)) (begun journal)
+begun_ascends terms _ Empty = tt
+begun_ascends terms _ (Next journal event run may) =
+    rw (begun-push journal event) (begun_ascend terms journal event.by event.what may (begun_ascends terms journal run))
+
+-- a batch that was begun is the only one that was under its number
+pub only_begun : (terms : Terms) (journal : List Event) → Run terms journal → (batch : Batch) → Contains (begun journal) batch → filter (λ (b : Batch). b.number == batch.number) (begun journal) ≡ batch ∷ []
+only_begun terms journal run batch here = only_number (length (begun journal)) (begun journal) batch (begun_ascends terms journal run) here
+
 -- ---- documents that are out were noted
 
 abbrev pub AreNoted : List Notice → List (List ℕ × Seq) → Type 0

@@ -1,5 +1,4 @@
-//! Tests of the layers below the catalogue: plain data, lines, words, the change list, what becomes of a document,
-//! frames, and what queries are made of.
+//! Tests of the lowest layers: plain data, lines, words, paths and their numbers, and the change list.
 #![tactic(auto)]
 
 #[cfg(test)]
@@ -7,23 +6,11 @@ mod base;
 #[cfg(test)]
 mod changes;
 #[cfg(test)]
-mod chunks;
-#[cfg(test)]
-mod entries;
-#[cfg(test)]
-mod frames;
-#[cfg(test)]
-mod keys;
-#[cfg(test)]
 mod lines;
 #[cfg(test)]
 mod noise;
 #[cfg(test)]
 mod paths;
-#[cfg(test)]
-mod patterns;
-#[cfg(test)]
-mod pieces;
 #[cfg(test)]
 mod varints;
 #[cfg(test)]

@@ -122,3 +122,41 @@ fn other_bytes_are_no_frame(rt: HostRuntime) -> Result<(), Fail> {
     }
     Ok(())
 }
+
+#[test]
+fn copies_equal_what_they_copy(rt: HostRuntime) -> Result<(), Fail> {
+    let alloc = rt.alloc();
+    for (call, _) in calls(alloc)? {
+        assert!(rt; call.copy(alloc)? == call);
+    }
+    let answers = vec![in alloc;
+        Answer::Status(Status::S_OK),
+        Answer::Text {
+            status: Status::S_OK,
+            text: Text::of(alloc, "red")?
+        },
+        Answer::Value {
+            status: Status::S_OK,
+            value: Value::Int(-2)
+        },
+    ]?;
+    for answer in answers {
+        assert!(rt; answer.copy(alloc)? == answer);
+        let frame = Frame::Answer(answer);
+        assert!(rt; frame.copy(alloc)? == frame);
+    }
+    Ok(())
+}
+
+#[test]
+fn a_copy_holds_the_bytes_that_are_left(rt: HostRuntime) -> Result<(), Fail> {
+    let alloc = rt.alloc();
+    let mut frames = Frames::new(alloc)?;
+    frames.feed(b"\x01\x02\x01\x04")?;
+    assert!(rt; matches!(frames.next(), Ok(Some(Frame::Call(Call::GetChunk)))));
+    let mut copied = frames.copy(alloc)?;
+    assert!(rt; matches!(copied.next(), Ok(Some(Frame::Call(Call::GetValue)))));
+    assert!(rt; matches!(copied.next(), Ok(None)));
+    assert!(rt; matches!(frames.next(), Ok(Some(Frame::Call(Call::GetValue)))));
+    Ok(())
+}

@@ -1,0 +1,7 @@
+pub mod AnswerLemmas
+pub mod AskedLemmas
+pub mod BegunLemmas
+pub mod LatestLemmas
+pub mod OutLemmas
+pub mod ReplayLemmas
+pub mod SameLemmas

@@ -1,0 +1,7 @@
+use Rattle.ci_play.proofs.play.play.Goals as goal
+
+pub returns-in-Answer-clause-ok : goal.returns-in-Answer-clause-ok
+returns-in-Answer-clause-ok g c = rw c.in-Answer.is c.play_answer.ensures.ok
+
+pub returns-in-Answer-clause-refused : goal.returns-in-Answer-clause-refused
+returns-in-Answer-clause-refused g c = rw c.in-Answer.is c.play_answer.ensures.refused

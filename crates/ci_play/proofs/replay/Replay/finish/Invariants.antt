@@ -1,0 +1,18 @@
+use Rattle.std.proofs.Common.{◌≡◌, fold, All}
+use Rattle.std.specs.Iterator.Adapters.{zip_first, zip_second}
+use Rattle.std.specs.Slice.Iter.{iter_rest}
+use Rattle.ci_core.specs.Serving.{IsIndexable}
+use Rattle.ci_journal.specs.Completions.{completions_of}
+use Rattle.ci_journal.specs.Served.{Served, serve}
+use Rattle.ci_play.specs.Replay.{Tells}
+use Rattle.ci_play.proofs.replay.Replay.finish.Given as goal
+
+abbrev pub invariant-loop-path : goal.invariant-loop-path
+invariant-loop-path l =
+    let docs = iter_rest (zip_first l.path-iterator) in
+    let outcomes = iter_rest (zip_second l.path-iterator) in
+    record {
+      indexable : All IsIndexable outcomes;
+      comes : (served : Served) → Tells served l.initial.self → (mid : Served) × Tells mid l.self
+          × (fold (serve (record { noise = l.noise })) mid (completions_of docs outcomes) ≡ fold (serve (record { noise = l.noise })) served (completions_of l.docs l.outcomes));
+    }

@@ -1,0 +1,4 @@
+pub mod Answerable
+pub mod Played
+pub mod Replay
+pub mod Steps

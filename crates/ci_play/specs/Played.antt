@@ -1,0 +1,28 @@
+-- A list of steps, played one after the other.
+use Rattle.std.specs.Prelude.{◌≡◌, ◌⊎◌, List, [], ◌∷◌}
+use Rattle.ci_core.specs.declared.core_fault.CoreFault.{CoreFault}
+use Rattle.ci_core.specs.declared.core_fault.CoreFault.TheVariants.{OutOfMemory}
+use Rattle.ci_core.specs.Core.{Core}
+use Rattle.ci_play.specs.declared.step.Step.{Step}
+use Rattle.ci_play.specs.Steps.{Holds, Does, IsStopped}
+
+-- the step was made; or its condition doesn't hold, and it was passed over
+abbrev pub Plays : Core → Core → Step → Type 0
+Plays old new step = (Holds old step × Does old new step) ⊎ (¬ Holds old step × (new ≡ old))
+
+-- the step was refused; or there was no memory to see whether its condition holds
+abbrev pub Stops : Core → Core → Step → CoreFault → Type 0
+Stops old new step fault =
+    (Holds old step × IsStopped old new step fault) ⊎ ((fault ≡ OutOfMemory) × (new ≡ old))
+
+-- each step was played, in order
+abbrev pub Played : Core → List Step → Core → Type 0
+Played old [] new = new ≡ old
+Played old (step ∷ steps) new = (mid : Core) × Plays old mid step × Played mid steps new
+
+-- each step was played, up to the first that was refused
+abbrev pub PlayedUntil : Core → List Step → Core → CoreFault → Type 0
+PlayedUntil old [] new fault = ⊥
+PlayedUntil old (step ∷ steps) new fault =
+    Stops old new step fault
+    ⊎ ((mid : Core) × Plays old mid step × PlayedUntil mid steps new fault)

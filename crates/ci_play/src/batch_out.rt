@@ -1,0 +1,57 @@
+ghost use Rattle.std.specs.Prelude.{◌≡◌, ◌↔◌, true, slice_get, Contains};
+ghost use Rattle.std.specs.Option.{option_copied};
+ghost use Rattle.ci_journal.specs.declared.event.Happened.TheVariants.{Begun};
+ghost use Rattle.ci_journal.specs.Completions.{out};
+ghost use Rattle.ci_core.specs.Changes.{event};
+ghost use Rattle.ci_play.specs.Replay.{begun_as};
+
+use crate::same::is_same;
+use crate::told::{begun_in, is_out_behind};
+use ci_change::Batch;
+use ci_journal::Event;
+
+/// Whether the batch was begun, and isn't done.
+pub fn is_out(events: &[Event], batch: &Batch) -> bool
+    ensures { (result ≡ true) ↔ Contains (out events.now) batch.now }
+{
+    let mut is_out = false;
+    for event in events {
+        is_out = is_out_behind(is_out, &event.what, batch);
+    }
+    is_out
+}
+
+/// Whether this author began the batch.
+pub fn is_begun_by(events: &[Event], by: u32, batch: &Batch) -> bool
+    ensures { (result ≡ true) ↔ Contains events.now (event by (Begun batch.now)) }
+{
+    for event in events {
+        if tells_begun(event, by, batch) {
+            return true;
+        }
+    }
+    false
+}
+
+fn tells_begun(told: &Event, by: u32, batch: &Batch) -> bool
+    ensures { (result ≡ true) ↔ (told.now ≡ event by (Begun batch.now)) }
+{
+    match begun_in(&told.what) {
+        Some(begun) => told.by == by && is_same(begun, batch),
+        None => false,
+    }
+}
+
+/// The batch that was begun under this number, if one was.
+pub fn batch_begun(journal: &[Event], number: u64) -> Option<&Batch>
+    ensures { option_copied result ≡ slice_get (begun_as journal.now number) 0 }
+{
+    for event in journal {
+        if let Some(batch) = begun_in(&event.what) {
+            if batch.number == number {
+                return Some(batch);
+            }
+        }
+    }
+    None
+}

@@ -1,0 +1,17 @@
+//! A list of steps, played one after the other on a catalogue.
+#![tactic(auto)]
+
+mod answerable;
+mod batch_out;
+mod conditions;
+mod indexable;
+mod latest;
+mod play;
+mod replay;
+mod same;
+mod step;
+mod steps;
+mod told;
+
+pub use step::Step;
+pub use steps::run_core;

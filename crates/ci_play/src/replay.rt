@@ -1,0 +1,210 @@
+ghost use Rattle.std.specs.Prelude.{◌≡◌, ◌≤◌, All, Some, None, fold, length, take, IfOk, OnOk};
+ghost use Rattle.ci_core.specs.Serving.{AllIndexable, HasIndexable, IsIndexable};
+ghost use Rattle.ci_journal.specs.declared.outcome.Outcome.TheVariants.{Done as OutcomeDone};
+ghost use Rattle.ci_journal.specs.Completions.{Filings, completed, completion_of, completions_of, file_event};
+ghost use Rattle.ci_journal.specs.Served.{Served, hits, live_map, nothing_served, serve, served_by};
+ghost use Rattle.ci_journal.specs.Step.{Run};
+ghost use Rattle.ci_journal.specs.Terms.{Terms};
+ghost use Rattle.ci_play.specs.Replay.{FindsDone, Tells};
+
+use crate::batch_out::batch_begun;
+use ci_base::{OutOfMemory, PathText, Seq, Text};
+use ci_change::ChangeList;
+use ci_chunk::Transcript;
+use ci_documents::{Documents, SharedEntry, make_place, plain_list, serve, take_away};
+use ci_entry::entry_of;
+use ci_journal::{Event, Happened, Outcome, Paths};
+use ci_words::NoiseList;
+use std::alloc::Global;
+use std::marker::Model;
+
+/// The paths of the documents whose contents had the word at a place of the journal.
+pub fn hits_at(
+    alloc: Global,
+    noise: &NoiseList,
+    journal: &[Event],
+    at: usize,
+    word: &Text,
+) -> Result<Paths, OutOfMemory>
+    requires within { at ≤ length journal.now }
+    requires run { let terms : Terms = record { noise = noise.now } in Run terms journal.now }
+    requires indexable { AllIndexable journal.now }
+    ensures { let terms : Terms = record { noise = noise.now } in
+        IfOk result (λ paths. paths ≡ hits word.now (live_map terms (take at journal.now))) }
+{
+    Replay::to(alloc, noise, journal, at)?.hits(word)
+}
+
+// The documents of a journal's front, which is served again, and the numbers under which they
+// were served. Contracts see both.
+#[derive(Drop)]
+struct Replay {
+    alloc: Global,
+    changes: ChangeList,
+    documents: Documents,
+}
+
+impl Model for Replay {
+    ghost use Rattle.ci_play.specs.Replay.{Replayed};
+
+    ghost Value = { Replayed };
+
+    ghost view = { λ r. record {
+      numbers = r.changes.served;
+      standings = r.documents.entries;
+    } };
+}
+
+impl Replay {
+    // Nothing is served.
+    fn new(alloc: Global) -> Replay
+        ensures { Tells nothing_served result }
+    {
+        Replay {
+            alloc,
+            changes: ChangeList::new(alloc, 0),
+            documents: Documents::new(alloc),
+        }
+    }
+
+    // The events before a place of the journal are served.
+    fn to(
+        alloc: Global,
+        noise: &NoiseList,
+        journal: &[Event],
+        at: usize,
+    ) -> Result<Replay, OutOfMemory>
+        requires within { at ≤ length journal.now }
+        requires run { let terms : Terms = record { noise = noise.now } in Run terms journal.now }
+        requires indexable { AllIndexable journal.now }
+        ensures { let terms : Terms = record { noise = noise.now } in
+            IfOk result (λ r. Tells (served_by terms (completed (take at journal.now))) r) }
+    {
+        let mut replay = Replay::new(alloc);
+        for event in &journal[..at] {
+            replay.serve(noise, journal, &event.what)?;
+        }
+        Ok(replay)
+    }
+
+    // The paths of the documents whose contents have the word.
+    fn hits(&self, word: &Text) -> Result<Paths, OutOfMemory>
+        ensures { (served : Served) → Tells served self.now →
+            IfOk result (λ paths. paths ≡ hits word.now served.documents) }
+    {
+        plain_list(self.alloc, &self.documents)?.hits(self.alloc, word)
+    }
+
+    // What an event completes is served.
+    fn serve(
+        &mut self,
+        noise: &NoiseList,
+        journal: &[Event],
+        what: &Happened,
+    ) -> Result<(), OutOfMemory>
+        requires { HasIndexable what.now }
+        ensures { let terms : Terms = record { noise = noise.now } in (filed : Filings) →
+            FindsDone journal.now filed what.now →
+            Tells (served_by terms filed.completed) self.old →
+            OnOk result
+            (Tells (served_by terms (file_event filed what.now).completed) self.new) }
+    {
+        match what {
+            Happened::Asked { .. } => Ok(()),
+            Happened::Noted { .. } => Ok(()),
+            Happened::Put {
+                path,
+                seq,
+                transcript,
+            } => self.fill(noise, path, *seq, transcript),
+            Happened::Erased { path, seq } => self.erase(path, *seq),
+            Happened::Begun { .. } => Ok(()),
+            Happened::BatchDone { number, outcomes } => {
+                let Some(batch) = batch_begun(journal, *number) else {
+                    return Ok(());
+                };
+                self.finish(noise, batch.docs.items(), outcomes.items())
+            }
+            Happened::Opened { .. } => Ok(()),
+            Happened::Answered { .. } => Ok(()),
+            Happened::Said { .. } => Ok(()),
+        }
+    }
+
+    // Each document has its outcome.
+    fn finish(
+        &mut self,
+        noise: &NoiseList,
+        docs: &[(PathText, Seq)],
+        outcomes: &[Outcome],
+    ) -> Result<(), OutOfMemory>
+        requires { All IsIndexable outcomes.now }
+        ensures { let terms : Terms = record { noise = noise.now } in (served : Served) →
+            Tells served self.old → OnOk result
+            (Tells (fold (serve terms) served (completions_of docs.now outcomes.now)) self.new) }
+    {
+        for ((path, seq), outcome) in docs.iter().zip(outcomes) {
+            self.settle(noise, path, *seq, outcome)?;
+        }
+        Ok(())
+    }
+
+    // The document has this outcome.
+    fn settle(
+        &mut self,
+        noise: &NoiseList,
+        path: &PathText,
+        seq: Seq,
+        outcome: &Outcome,
+    ) -> Result<(), OutOfMemory>
+        requires { IsIndexable outcome.now }
+        ensures { let terms : Terms = record { noise = noise.now } in (served : Served) →
+            Tells served self.old → OnOk result (Tells
+            (serve terms served (completion_of (path.now, seq) outcome.now)) self.new) }
+    {
+        self.fill(noise, path, seq, transcript_of(outcome))
+    }
+
+    // The document was filtered to this transcript.
+    fn fill(
+        &mut self,
+        noise: &NoiseList,
+        path: &PathText,
+        seq: Seq,
+        transcript: &Transcript,
+    ) -> Result<(), OutOfMemory>
+        requires { IsIndexable (OutcomeDone transcript.now) }
+        ensures { let terms : Terms = record { noise = noise.now } in (served : Served) →
+            Tells served self.old → OnOk result (Tells (serve terms served
+            (record { path = path.now; seq = seq; filtered = Some transcript.now })) self.new) }
+    {
+        let entry = SharedEntry::new(self.alloc, entry_of(self.alloc, transcript, noise)?)?;
+        make_place(self.alloc, &mut self.documents, path)?;
+        let served = self.changes.served_of(path);
+        self.changes.served(path, seq)?;
+        serve(&mut self.documents, path, served, seq, entry);
+        Ok(())
+    }
+
+    // The document was taken away.
+    fn erase(&mut self, path: &PathText, seq: Seq) -> Result<(), OutOfMemory>
+        ensures { (terms : Terms) (served : Served) → Tells served self.old →
+            OnOk result (Tells (serve terms served
+            (record { path = path.now; seq = seq; filtered = None })) self.new) }
+    {
+        let served = self.changes.served_of(path);
+        self.changes.served(path, seq)?;
+        if served.0 < seq.0 {
+            take_away(&mut self.documents, path);
+        }
+        Ok(())
+    }
+}
+
+fn transcript_of(outcome: &Outcome) -> &Transcript
+    ensures { OutcomeDone result.now ≡ outcome.now }
+{
+    match outcome {
+        Outcome::Done(transcript) => transcript,
+    }
+}

@@ -1,0 +1,49 @@
+ghost use Rattle.std.specs.Prelude.{◌≡◌, OnOk, IfErr};
+ghost use Rattle.ci_core.specs.Fixed.{KeepsFixed};
+ghost use Rattle.ci_journal.specs.Step.{Run};
+ghost use Rattle.ci_law.specs.Law.{AllAnswer};
+ghost use Rattle.ci_play.specs.Played.{Played, PlayedUntil};
+
+use crate::Step;
+use crate::play::play;
+use ci_core::{Catalog, CoreFault};
+use ci_io::Sink;
+use std::alloc::Global;
+
+/// Plays the steps in order. One whose condition doesn't hold is passed over. At the first that is
+/// refused the rest are left, and its fault is answered. Memory comes from where the steps' does.
+pub fn run_core<K: Sink + Drop>(catalog: &mut Catalog<K>, steps: Vec<Step>) -> Result<(), CoreFault>
+    ensures ok { OnOk result (Played catalog.old steps.items catalog.new) }
+    ensures refused { IfErr result (PlayedUntil catalog.old steps.items catalog.new) }
+    ensures fixed { KeepsFixed catalog.old catalog.new }
+    ensures run { Run catalog.new.terms catalog.new.sheet.events }
+    ensures answers { AllAnswer catalog.new.terms catalog.new.sheet.events }
+{
+    let alloc = *steps.allocator();
+    let played = play_all(alloc, catalog, steps);
+    tell_run(catalog);
+    played
+}
+
+fn play_all<K: Sink + Drop>(
+    alloc: Global,
+    catalog: &mut Catalog<K>,
+    steps: Vec<Step>,
+) -> Result<(), CoreFault>
+    ensures ok { OnOk result (Played catalog.old steps.items catalog.new) }
+    ensures refused { IfErr result (PlayedUntil catalog.old steps.items catalog.new) }
+    ensures fixed { KeepsFixed catalog.old catalog.new }
+{
+    for step in steps {
+        play(alloc, catalog, step)?;
+    }
+    Ok(())
+}
+
+// A catalogue's journal is a run. A call does nothing.
+fn tell_run<K: Sink + Drop>(catalog: &Catalog<K>)
+    ensures run { Run catalog.now.terms catalog.now.sheet.events }
+    ensures answers { AllAnswer catalog.now.terms catalog.now.sheet.events }
+{
+    let _journal = catalog.journal();
+}
