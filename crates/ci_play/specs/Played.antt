@@ -4,16 +4,29 @@ use Rattle.ci_core.specs.declared.core_fault.CoreFault.{CoreFault}
 use Rattle.ci_core.specs.declared.core_fault.CoreFault.TheVariants.{OutOfMemory}
 use Rattle.ci_core.specs.Core.{Core}
 use Rattle.ci_play.specs.declared.step.Step.{Step}
+use Rattle.ci_play.specs.declared.step.Step.TheVariants.{Ask, Note, Put, Erase, BeginBatch, FinishBatch, OpenQuery, Answer, Say}
 use Rattle.ci_play.specs.Steps.{Holds, Does, IsStopped}
 
 -- the step was made; or its condition doesn't hold, and it was passed over
 abbrev pub Plays : Core → Core → Step → Type 0
 Plays old new step = (Holds old step × Does old new step) ⊎ (¬ Holds old step × (new ≡ old))
 
--- the step was refused; or there was no memory to see whether its condition holds
+-- there was no memory to see whether the step's condition holds, which only that of an answer takes
+abbrev pub IsUnseen : Step → CoreFault → Type 0
+IsUnseen (Ask by request) fault = ⊥
+IsUnseen (Note by path what) fault = ⊥
+IsUnseen (Put by path seq transcript) fault = ⊥
+IsUnseen (Erase by path) fault = ⊥
+IsUnseen (BeginBatch by max) fault = ⊥
+IsUnseen (FinishBatch by batch outcomes) fault = ⊥
+IsUnseen (OpenQuery by) fault = ⊥
+IsUnseen (Answer by id at paths) fault = fault ≡ OutOfMemory
+IsUnseen (Say by id reply) fault = ⊥
+
+-- the step was refused; or it is unseen whether its condition holds, and nothing changed
 abbrev pub Stops : Core → Core → Step → CoreFault → Type 0
 Stops old new step fault =
-    (Holds old step × IsStopped old new step fault) ⊎ ((fault ≡ OutOfMemory) × (new ≡ old))
+    (Holds old step × IsStopped old new step fault) ⊎ (IsUnseen step fault × (new ≡ old))
 
 -- each step was played, in order
 abbrev pub Played : Core → List Step → Core → Type 0
@@ -26,3 +39,8 @@ PlayedUntil old [] new fault = ⊥
 PlayedUntil old (step ∷ steps) new fault =
     Stops old new step fault
     ⊎ ((mid : Core) × Plays old mid step × PlayedUntil mid steps new fault)
+
+-- so it ended early; or each step was played, and there was no memory to list what stands behind them
+abbrev pub StopsBehind : Core → List Step → Core → CoreFault → Type 0
+StopsBehind old steps new fault =
+    PlayedUntil old steps new fault ⊎ (Played old steps new × (fault ≡ OutOfMemory))

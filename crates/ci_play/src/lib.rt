@@ -9,9 +9,11 @@ mod latest;
 mod play;
 mod replay;
 mod same;
+mod standing;
 mod step;
 mod steps;
 mod told;
 
+pub use standing::{Standing, run_and_list};
 pub use step::Step;
 pub use steps::run_core;

@@ -1,0 +1,11 @@
+//! Tests of lists of steps, played on a catalogue over memory.
+#![tactic(auto)]
+
+#[cfg(test)]
+mod answers;
+#[cfg(test)]
+mod changes;
+#[cfg(test)]
+mod standings;
+#[cfg(test)]
+mod steps;

@@ -1,0 +1,94 @@
+//! Catalogues over memory, and what stands behind the steps that they made.
+
+ghost use Rattle.std.specs.Prelude.{◌≤◌};
+
+use ci_base::Seq;
+use ci_core::{Catalog, CoreFault, Settings};
+use ci_io::SureMemorySink;
+use ci_journal::{Notice, What};
+use ci_play::{Standing, Step, run_and_list, run_core};
+use ci_words::NoiseList;
+use std::alloc::Global;
+use std::test::Fail;
+
+// A catalogue over memory, with a bound on its documents.
+fn catalog(alloc: Global, documents: u32) -> Result<Catalog<SureMemorySink>, Fail>
+    requires some { 1 ≤ documents }
+    requires few { documents ≤ 262144 }
+{
+    let settings = Settings {
+        journal: 65_536,
+        documents,
+        noise: NoiseList::standard(alloc)?,
+    };
+    let sink = SureMemorySink::new(alloc, 64, 1024)?;
+    Ok(
+        Catalog::new(alloc, sink, &settings)
+            .ok()
+            .ok_or("no memory")?,
+    )
+}
+
+/// How a list of steps ended, and what it left.
+#[derive(Drop)]
+pub(crate) struct Left {
+    pub(crate) ended: Result<(), CoreFault>,
+    pub(crate) events: usize,
+    pub(crate) replied: bool,
+}
+
+/// The steps are played on a new catalogue.
+pub(crate) fn play(alloc: Global, documents: u32, steps: Vec<Step>) -> Result<Left, Fail>
+    requires some { 1 ≤ documents }
+    requires few { documents ≤ 262144 }
+{
+    let mut catalog = catalog(alloc, documents)?;
+    let ended = run_core(&mut catalog, steps);
+    Ok(Left {
+        ended,
+        events: catalog.journal().events().len(),
+        replied: catalog.replied(1),
+    })
+}
+
+/// The steps are played on a new catalogue, and what stands behind them is listed.
+pub(crate) fn list(alloc: Global, steps: Vec<Step>) -> Result<Standing, Fail> {
+    let mut catalog = catalog(alloc, 8)?;
+    Ok(run_and_list(&mut catalog, steps)?)
+}
+
+/// Two lists are played on one catalogue, behind each other.
+pub(crate) fn play_both(
+    alloc: Global,
+    documents: u32,
+    steps: Vec<Step>,
+    more: Vec<Step>,
+) -> Result<Result<(), CoreFault>, Fail>
+    requires some { 1 ≤ documents }
+    requires few { documents ≤ 262144 }
+{
+    let mut catalog = catalog(alloc, documents)?;
+    let _first = run_core(&mut catalog, steps);
+    Ok(run_core(&mut catalog, more))
+}
+
+/// Whether this is the one document.
+pub(crate) fn holds_only(standing: &Standing, text: &str) -> bool {
+    let paths = standing.paths.items();
+    paths.len() == 1 && paths.iter().all(|path| path.as_str() == text)
+}
+
+/// Whether this change is the one that is pending.
+pub(crate) fn waits_only(standing: &Standing, text: &str, seq: u64) -> bool {
+    let pending = standing.pending.items();
+    pending.len() == 1 && pending.iter().all(|notice| is_change(notice, text, seq))
+}
+
+fn is_change(notice: &Notice, text: &str, seq: u64) -> bool {
+    notice.path.as_str() == text && notice.seq == Seq(seq) && notice.what == What::Changed
+}
+
+/// Whether there is no document, and nothing is pending.
+pub(crate) fn is_empty(standing: &Standing) -> bool {
+    standing.paths.items().is_empty() && standing.pending.items().is_empty()
+}

@@ -1,0 +1,112 @@
+//! Lists of steps as the tests write them: each call adds a step.
+
+use ci_base::{PathText, Seq, Text};
+use ci_change::{Batch, Docs};
+use ci_chunk::Transcript;
+use ci_journal::{Outcome, Outcomes, Paths, Reply, Request, What};
+use ci_play::Step;
+use std::alloc::Global;
+use std::test::Fail;
+
+pub(crate) fn path(alloc: Global, text: &str) -> Result<PathText, Fail> {
+    Ok(PathText::read(alloc, text.as_bytes())?)
+}
+
+/// A query is asked.
+pub(crate) fn ask(steps: &mut Vec<Step>, text: &str) -> Result<(), Fail> {
+    let text = Text::of(*steps.allocator(), text)?;
+    steps.push(Step::Ask {
+        by: 0,
+        request: Request::Query(text),
+    })?;
+    Ok(())
+}
+
+/// The document is noted.
+pub(crate) fn note(steps: &mut Vec<Step>, text: &str, what: What) -> Result<(), Fail> {
+    let path = path(*steps.allocator(), text)?;
+    steps.push(Step::Note { by: 0, path, what })?;
+    Ok(())
+}
+
+/// The document is put under its notice.
+pub(crate) fn put(steps: &mut Vec<Step>, name: &str, seq: u64, text: &str) -> Result<(), Fail> {
+    let alloc = *steps.allocator();
+    let path = path(alloc, name)?;
+    let transcript = Transcript::plain(alloc, &path, text)?;
+    steps.push(Step::Put {
+        by: 0,
+        path,
+        seq: Seq(seq),
+        transcript,
+    })?;
+    Ok(())
+}
+
+/// The document is erased.
+pub(crate) fn erase(steps: &mut Vec<Step>, text: &str) -> Result<(), Fail> {
+    let path = path(*steps.allocator(), text)?;
+    steps.push(Step::Erase { by: 0, path })?;
+    Ok(())
+}
+
+/// The filter worker begins a batch.
+pub(crate) fn begin(steps: &mut Vec<Step>, max: usize) -> Result<(), Fail> {
+    steps.push(Step::BeginBatch { by: 1, max })?;
+    Ok(())
+}
+
+/// It finishes the first batch, which is of this document under the first notice.
+pub(crate) fn finish(steps: &mut Vec<Step>, text: &str) -> Result<(), Fail> {
+    let alloc = *steps.allocator();
+    let mut docs = Docs::new(alloc);
+    docs.add((path(alloc, text)?, Seq(1)))?;
+    let mut outcomes = Outcomes::new(alloc);
+    outcomes.add(Outcome::Done(Transcript::new(alloc)))?;
+    steps.push(Step::FinishBatch {
+        by: 1,
+        batch: Batch { number: 1, docs },
+        outcomes,
+    })?;
+    Ok(())
+}
+
+/// The next query is opened.
+pub(crate) fn open(steps: &mut Vec<Step>) -> Result<(), Fail> {
+    steps.push(Step::OpenQuery { by: 0 })?;
+    Ok(())
+}
+
+/// The first request is answered at this place, with no document.
+pub(crate) fn answer_none(steps: &mut Vec<Step>, at: u64) -> Result<(), Fail> {
+    let paths = Paths::new(*steps.allocator());
+    add_answer(steps, at, paths)
+}
+
+/// The first request is answered at this place, with one document.
+pub(crate) fn answer(steps: &mut Vec<Step>, at: u64, text: &str) -> Result<(), Fail> {
+    let alloc = *steps.allocator();
+    let mut paths = Paths::new(alloc);
+    paths.add(path(alloc, text)?)?;
+    add_answer(steps, at, paths)
+}
+
+fn add_answer(steps: &mut Vec<Step>, at: u64, paths: Paths) -> Result<(), Fail> {
+    steps.push(Step::Answer {
+        by: 0,
+        id: 1,
+        at,
+        paths,
+    })?;
+    Ok(())
+}
+
+/// The first request is told that it is done.
+pub(crate) fn say_ok(steps: &mut Vec<Step>) -> Result<(), Fail> {
+    steps.push(Step::Say {
+        by: 0,
+        id: 1,
+        reply: Reply::Ok,
+    })?;
+    Ok(())
+}
