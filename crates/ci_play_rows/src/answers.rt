@@ -31,6 +31,7 @@ fn an_answer_is_of_its_own_point(rt: HostRuntime) -> Result<(), Fail> {
     assert!(rt; left.ended.is_ok());
     assert_eq!(rt; left.events, 7);
     assert!(rt; left.replied);
+    assert_eq!(rt; left.documents, 0);
     Ok(())
 }
 
@@ -68,6 +69,7 @@ fn crowded(alloc: Global) -> Result<Vec<Step>, Fail> {
 fn the_first_refusal_ends_it(rt: HostRuntime) -> Result<(), Fail> {
     let left = play(rt.alloc(), 1, crowded(rt.alloc())?)?;
     assert!(rt; matches!(left.ended, Err(CoreFault::TooManyDocuments)));
+    assert!(rt; left.crowded);
     assert_eq!(rt; left.events, 1);
     Ok(())
 }

@@ -18,9 +18,10 @@ fn changed_behind_a_batch(alloc: Global) -> Result<Vec<Step>, Fail> {
 
 #[test]
 fn a_change_behind_a_batch_stays_pending(rt: HostRuntime) -> Result<(), Fail> {
-    let standing = list(rt.alloc(), changed_behind_a_batch(rt.alloc())?)?;
-    assert!(rt; holds_only(&standing, "/p"));
-    assert!(rt; waits_only(&standing, "/p", 2));
+    let listed = list(rt.alloc(), changed_behind_a_batch(rt.alloc())?)?;
+    assert!(rt; holds_only(&listed.standing, "/p"));
+    assert!(rt; waits_only(&listed.standing, "/p", 2));
+    assert_eq!(rt; listed.events, 4);
     Ok(())
 }
 
@@ -36,7 +37,8 @@ fn deleted_behind_a_batch(alloc: Global) -> Result<Vec<Step>, Fail> {
 
 #[test]
 fn an_outcome_older_than_a_deletion_counts_no_more(rt: HostRuntime) -> Result<(), Fail> {
-    let standing = list(rt.alloc(), deleted_behind_a_batch(rt.alloc())?)?;
-    assert!(rt; is_empty(&standing));
+    let listed = list(rt.alloc(), deleted_behind_a_batch(rt.alloc())?)?;
+    assert!(rt; is_empty(&listed.standing));
+    assert_eq!(rt; listed.events, 5);
     Ok(())
 }

@@ -33,7 +33,9 @@ fn catalog(alloc: Global, documents: u32) -> Result<Catalog<SureMemorySink>, Fai
 #[derive(Drop)]
 pub(crate) struct Left {
     pub(crate) ended: Result<(), CoreFault>,
+    pub(crate) crowded: bool,
     pub(crate) events: usize,
+    pub(crate) documents: usize,
     pub(crate) replied: bool,
 }
 
@@ -44,17 +46,35 @@ pub(crate) fn play(alloc: Global, documents: u32, steps: Vec<Step>) -> Result<Le
 {
     let mut catalog = catalog(alloc, documents)?;
     let ended = run_core(&mut catalog, steps);
+    let kept = catalog.paths()?.items().len();
     Ok(Left {
         ended,
+        crowded: is_crowded(catalog.fault()),
         events: catalog.journal().events().len(),
+        documents: kept,
         replied: catalog.replied(1),
     })
 }
 
+fn is_crowded(fault: Option<&CoreFault>) -> bool {
+    matches!(fault, Some(CoreFault::TooManyDocuments))
+}
+
+/// What stands behind a list of steps, and how many events tell of them.
+#[derive(Drop)]
+pub(crate) struct Listed {
+    pub(crate) standing: Standing,
+    pub(crate) events: usize,
+}
+
 /// The steps are played on a new catalogue, and what stands behind them is listed.
-pub(crate) fn list(alloc: Global, steps: Vec<Step>) -> Result<Standing, Fail> {
+pub(crate) fn list(alloc: Global, steps: Vec<Step>) -> Result<Listed, Fail> {
     let mut catalog = catalog(alloc, 8)?;
-    Ok(run_and_list(&mut catalog, steps)?)
+    let standing = run_and_list(&mut catalog, steps)?;
+    Ok(Listed {
+        standing,
+        events: catalog.journal().events().len(),
+    })
 }
 
 /// Two lists are played on one catalogue, behind each other.
