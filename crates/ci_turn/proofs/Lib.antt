@@ -1,0 +1,10 @@
+pub mod Places
+pub mod Fronts
+pub mod InLine
+pub mod Memories
+pub mod Rosters
+pub mod Keeps
+pub mod Seating
+pub mod Tickets
+pub mod Passing
+pub mod Ends
