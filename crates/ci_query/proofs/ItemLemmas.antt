@@ -8,7 +8,8 @@ use Rattle.std.proofs.lemmas.List.Sums.{prefix_len-le-length}
 use Rattle.std.proofs.Math.Seq.{drop-cons, take-suc}
 use Rattle.std.proofs.lemmas.Grind.{flat_map-append}
 use Rattle.ci_pieces.specs.Cut.{Cut}
-use Rattle.ci_query.specs.Words.{is_item, item_words, items_of, too_long, words_of}
+use Rattle.ci_dialect.specs.Words.{is_item, item_words, words_of}
+use Rattle.ci_dialect.specs.Step.{items_of, too_long}
 
 found_or_len : (p n : ℕ) (r : Option ℕ) → r ≡ cond (nat_lt p n) (Some p) None → p ≤ n → unwrap_or r n ≡ p
 found_or_len p n r is within = grind (arith, nat_tests)

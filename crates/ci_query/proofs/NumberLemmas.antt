@@ -8,7 +8,7 @@ use Rattle.std.proofs.lemmas.Bool.{cases_lt}
 use Rattle.std.proofs.lemmas.Str.{IsCharBoundary-after_ascii}
 use Rattle.std.proofs.lemmas.Str.Parse.{IsNumeralModel, numerals_by_fold, parse_signed_digits, parse_signed_minus}
 use mir.Syntax.{w64}
-use Rattle.ci_query.specs.Values.{fitting, is_digit, is_digits, is_negative, number_of, unsigned, value_behind}
+use Rattle.ci_dialect.specs.Values.{fitting, is_digit, is_digits, is_negative, number_of, unsigned, value_behind}
 
 pub own : IsNumeralModel (λ ds. list_all is_digit ds ≡ true) (value_behind 0)
 own = numerals_by_fold _ (search rules) value_behind (search rules)

@@ -7,9 +7,10 @@ use Rattle.std.proofs.lemmas.List.{map-append}
 use Rattle.std.proofs.lemmas.Map.Views.{list_any-from_Contains, Contains-from_any}
 use Rattle.std.proofs.lemmas.Slice.Eq.{bytes_eq-Decides}
 use Rattle.std.proofs.Math.Seq.{take-append_seam, take-suc}
-use Rattle.ci_query.specs.declared.slots.Slot.{Slot}
-use Rattle.ci_query.specs.declared.slots.Slot.TheVariants.{Word, Open}
-use Rattle.ci_query.specs.Words.{behind_noise, closed, is_noise, slot_before, slot_of, with_slot}
+use Rattle.ci_dialect.specs.declared.slots.Slot.{Slot}
+use Rattle.ci_dialect.specs.declared.slots.Slot.TheVariants.{Word, Open}
+use Rattle.ci_dialect.specs.Words.{behind_noise, closed, is_noise, slot_before, slot_of}
+use Rattle.ci_query.specs.Words.{with_slot}
 
 -- a word is noise where the list has it
 pub noise_is : (noise : List (List ℕ)) (word : List ℕ) (b : Bool) → IsTrue b ↔ Contains noise word → b ≡ is_noise noise word

@@ -8,9 +8,10 @@ use Rattle.ci_base.specs.Path.{has_path_form}
 use Rattle.ci_paths.specs.declared.prefix.Prefix.{Prefix}
 use Rattle.ci_paths.specs.Prefix.{IsPrefix, prefix_of}
 use Rattle.ci_pieces.specs.Cut.{Cut}
-use Rattle.ci_query.specs.declared.fault.QueryFault.TheVariants.{Bad}
-use Rattle.ci_query.specs.declared.restriction.Restriction.TheVariants as restriction
-use Rattle.ci_query.specs.Values.{is_prefix, scoped}
+use Rattle.ci_dialect.specs.declared.fault.QueryFault.TheVariants.{Bad}
+use Rattle.ci_dialect.specs.declared.restriction.Restriction.TheVariants as restriction
+use Rattle.ci_dialect.specs.Values.{is_prefix}
+use Rattle.ci_dialect.specs.Values.{scoped}
 
 or_right : (a b : Bool) → b ≡ true → (a || b) ≡ true
 or_right true b h = refl

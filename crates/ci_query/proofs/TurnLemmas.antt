@@ -1,9 +1,10 @@
 -- A rule that is repeated behind a sign.
 use Rattle.std.proofs.Common.{◌≡◌, ℕ, suc, ◌+◌, ◌-◌, ◌<◌, true, false, List, [], ◌∷◌, ◌++◌, Ok, Err, refl, sym, ap, ◌∙◌, arith, append-nil, append_assoc, if◌then◌else◌}
-use Rattle.ci_query.specs.declared.fault.QueryFault.{QueryFault}
-use Rattle.ci_query.specs.declared.sign.Sign.{Sign}
-use Rattle.ci_query.specs.Left.{Left}
-use Rattle.ci_query.specs.Reading.{Outcome, Rule, and_then, eat, pure, turns, ◌>>=◌}
+use Rattle.ci_dialect.specs.declared.fault.QueryFault.{QueryFault}
+use Rattle.ci_dialect.specs.declared.sign.Sign.{Sign}
+use Rattle.ci_dialect.specs.Left.{Left}
+use Rattle.ci_query.specs.Reading.{Reader, and_then, eat, pure, turns, ◌>>=◌}
+use Rattle.ci_dialect.specs.Step.{Outcome}
 
 -- an outcome behind what was read before
 abbrev pub prepended : {A : Type 0} → List A → Outcome (List A) → Outcome (List A)
@@ -18,7 +19,7 @@ prepended-more before x (Err fault) = refl
 one_more : {X : Type 0} (f : ℕ → X) (n at : ℕ) → at < n → f (n - at) ≡ f (suc (n - (at + 1)))
 one_more f n at below = let turn : n - at ≡ suc (n - (at + 1)) = omega arith in ap f turn
 
-module _ {A : Type 0} (s : Sign) (rule : Rule A) (whole : Outcome (List A)) (before : List A) (n at : ℕ) (l l' : Left) where
+module _ {A : Type 0} (s : Sign) (rule : Reader A) (whole : Outcome (List A)) (before : List A) (n at : ℕ) (l l' : Left) where
   -- so far, and what is still to be read
   abbrev pub SoFar : Type 0
   SoFar = whole ≡ prepended before (turns s rule (n - at) l)

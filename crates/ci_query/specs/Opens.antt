@@ -2,12 +2,12 @@
 use Rattle.std.specs.Prelude.{ℕ, List, Result}
 use Rattle.std.specs.declared.alloc.Global.{Global}
 use denote.Ref.{Bor, MutBor}
-use Rattle.ci_query.specs.declared.fault.QueryFault.{QueryFault}
-use Rattle.ci_query.specs.declared.restriction.Restriction.{Restriction}
-use Rattle.ci_query.specs.declared.sign.Opener.{Opener}
-use Rattle.ci_query.specs.Grammar.{opened}
-use Rattle.ci_query.specs.Left.{Left}
-use Rattle.ci_query.specs.Reading.{Reads}
+use Rattle.ci_dialect.specs.declared.fault.QueryFault.{QueryFault}
+use Rattle.ci_dialect.specs.declared.restriction.Restriction.{Restriction}
+use Rattle.ci_dialect.specs.declared.sign.Opener.{Opener}
+use Rattle.ci_dialect.specs.Grammar.{opened}
+use Rattle.ci_dialect.specs.Left.{Left}
+use Rattle.ci_query.specs.Reading.{Reads, read}
 
 -- it may be called, and it reads by the rule
 pub record Opens (depth : ℕ)
@@ -15,4 +15,4 @@ pub record Opens (depth : ℕ)
     (post : Global → Bor (List (List ℕ)) → MutBor Left → ℕ → Opener → Result Restriction QueryFault → MutBor Left → Type 0) : Type 0 where
   pub callable : (alloc : Global) (noise : Bor (List (List ℕ))) (old : MutBor Left) (by : Opener) → pre alloc noise old depth by
   pub reads : (alloc : Global) (noise : Bor (List (List ℕ))) (old new : MutBor Left) (by : Opener) (r : Result Restriction QueryFault) → post alloc noise old depth by r new
-      → Reads (opened noise.now depth by old.now) r new.now
+      → Reads (read (opened noise.now depth by) old.now) r new.now

@@ -2,18 +2,18 @@
 //! parameter, so that each is proved by itself.
 
 ghost use Rattle.std.specs.Prelude.{◌≡◌};
-ghost use Rattle.ci_query.specs.Grammar as spec;
-ghost use Rattle.ci_query.specs.Joined as terms;
-ghost use Rattle.ci_query.specs.Reading.{Reads, ReadsList, repeated};
+ghost use Rattle.ci_dialect.specs.Grammar as spec;
+ghost use Rattle.ci_dialect.specs.Joined as terms;
+ghost use Rattle.ci_query.specs.Reading.{Reads, ReadsList, read, repeated};
 ghost use Rattle.ci_query.specs.Opens.{Opens};
-ghost use Rattle.ci_query.specs.declared.sign.Sign.TheVariants as sign;
+ghost use Rattle.ci_dialect.specs.declared.sign.Sign.TheVariants as sign;
 
 use crate::operands::{all_of, any_of, operands};
 use crate::reader::Reader;
-use crate::sign::{Opener, Sign};
 use crate::term::{pattern_term, property_term, words};
 use crate::{QueryFault, Restriction};
 use ci_base::PropNo;
+use ci_dialect::{Opener, Sign};
 use ci_pieces::PieceKind;
 use ci_words::NoiseList;
 use sqlite_items::Boxed;
@@ -39,21 +39,21 @@ impl<
     ) -> Result<Restriction, QueryFault>,
 > Grammar<'n, F> {
     /// all { "|" all }
-    #[tactic(auto, unfolding(crate::specs::Grammar::query))]
+    #[tactic(auto, unfolding(ci_dialect::specs::Grammar::query))]
     pub fn query(&self, reader: &mut Reader<'_, '_>) -> Result<Restriction, QueryFault>
         requires { Opens self.now.depth (F.pre self.now.opened) (F.post self.now.opened) }
-        ensures { Reads (spec.query self.now.noise.now
-            (spec.opened self.now.noise.now self.now.depth) reader.old) result reader.new }
+        ensures { Reads (read (spec.query self.now.noise.now
+            (spec.opened self.now.noise.now self.now.depth)) reader.old) result reader.new }
     {
         let first = self.all(reader)?;
         let others = self.other_alls(reader)?;
-        Ok(any_of(self.alloc, first, others)?)
+        Ok(any_of(first, others)?)
     }
 
     fn other_alls(&self, reader: &mut Reader<'_, '_>) -> Result<Vec<Restriction>, QueryFault>
         requires { Opens self.now.depth (F.pre self.now.opened) (F.post self.now.opened) }
-        ensures { ReadsList (repeated sign.Or (spec.all self.now.noise.now
-            (spec.opened self.now.noise.now self.now.depth)) reader.old) result reader.new }
+        ensures { ReadsList (repeated sign.Or (read (spec.all self.now.noise.now
+            (spec.opened self.now.noise.now self.now.depth))) reader.old) result reader.new }
     {
         let mut others = Vec::new(self.alloc);
         for _turn in 0..reader.left() {
@@ -66,21 +66,21 @@ impl<
     }
 
     /// not { "&" not }
-    #[tactic(auto, unfolding(crate::specs::Grammar::all))]
+    #[tactic(auto, unfolding(ci_dialect::specs::Grammar::all))]
     fn all(&self, reader: &mut Reader<'_, '_>) -> Result<Restriction, QueryFault>
         requires { Opens self.now.depth (F.pre self.now.opened) (F.post self.now.opened) }
-        ensures { Reads (spec.all self.now.noise.now
-            (spec.opened self.now.noise.now self.now.depth) reader.old) result reader.new }
+        ensures { Reads (read (spec.all self.now.noise.now
+            (spec.opened self.now.noise.now self.now.depth)) reader.old) result reader.new }
     {
         let first = self.negation(reader)?;
         let others = self.other_negations(reader)?;
-        Ok(all_of(self.alloc, first, others)?)
+        Ok(all_of(first, others)?)
     }
 
     fn other_negations(&self, reader: &mut Reader<'_, '_>) -> Result<Vec<Restriction>, QueryFault>
         requires { Opens self.now.depth (F.pre self.now.opened) (F.post self.now.opened) }
-        ensures { ReadsList (repeated sign.And (spec.negation self.now.noise.now
-            (spec.opened self.now.noise.now self.now.depth)) reader.old) result reader.new }
+        ensures { ReadsList (repeated sign.And (read (spec.negation self.now.noise.now
+            (spec.opened self.now.noise.now self.now.depth))) reader.old) result reader.new }
     {
         let mut others = Vec::new(self.alloc);
         for _turn in 0..reader.left() {
@@ -93,11 +93,11 @@ impl<
     }
 
     /// "!" not | near
-    #[tactic(auto, unfolding(crate::specs::Grammar::negation))]
+    #[tactic(auto, unfolding(ci_dialect::specs::Grammar::negation))]
     pub fn negation(&self, reader: &mut Reader<'_, '_>) -> Result<Restriction, QueryFault>
         requires { Opens self.now.depth (F.pre self.now.opened) (F.post self.now.opened) }
-        ensures { Reads (spec.negation self.now.noise.now
-            (spec.opened self.now.noise.now self.now.depth) reader.old) result reader.new }
+        ensures { Reads (read (spec.negation self.now.noise.now
+            (spec.opened self.now.noise.now self.now.depth)) reader.old) result reader.new }
     {
         match reader.peek() {
             Some(PieceKind::Not) => {
@@ -109,11 +109,11 @@ impl<
     }
 
     /// prime { "~" prime }
-    #[tactic(auto, unfolding(crate::specs::Grammar::near))]
+    #[tactic(auto, unfolding(ci_dialect::specs::Grammar::near))]
     fn near(&self, reader: &mut Reader<'_, '_>) -> Result<Restriction, QueryFault>
         requires { Opens self.now.depth (F.pre self.now.opened) (F.post self.now.opened) }
-        ensures { Reads (spec.near self.now.noise.now
-            (spec.opened self.now.noise.now self.now.depth) reader.old) result reader.new }
+        ensures { Reads (read (spec.near self.now.noise.now
+            (spec.opened self.now.noise.now self.now.depth)) reader.old) result reader.new }
     {
         let at = reader.place();
         let first = self.prime(reader)?;
@@ -125,7 +125,7 @@ impl<
     }
 
     // The first operand of `~` has to be words or a phrase, and the others of its property.
-    #[tactic(auto, unfolding(crate::specs::Grammar::near_others))]
+    #[tactic(auto, unfolding(ci_dialect::specs::Grammar::near_others))]
     fn near_others(
         &self,
         reader: &mut Reader<'_, '_>,
@@ -133,15 +133,15 @@ impl<
         first: Restriction,
     ) -> Result<Restriction, QueryFault>
         requires { Opens self.now.depth (F.pre self.now.opened) (F.post self.now.opened) }
-        ensures { Reads (spec.near_others self.now.noise.now
-            (spec.opened self.now.noise.now self.now.depth) at first reader.old)
+        ensures { Reads (read (spec.near_others self.now.noise.now
+            (spec.opened self.now.noise.now self.now.depth) at first) reader.old)
             result reader.new }
     {
         let Some(property) = property_in(&first) else {
             return Err(QueryFault::Bad { at });
         };
         let others = self.near_operands(reader, property)?;
-        let terms = operands(self.alloc, first, others)?;
+        let terms = operands(first, others)?;
         Ok(Restriction::Proximity { property, terms })
     }
 
@@ -151,8 +151,8 @@ impl<
         property: PropNo,
     ) -> Result<Vec<Restriction>, QueryFault>
         requires { Opens self.now.depth (F.pre self.now.opened) (F.post self.now.opened) }
-        ensures { ReadsList (repeated sign.Near (spec.near_operand self.now.noise.now
-            (spec.opened self.now.noise.now self.now.depth) property) reader.old)
+        ensures { ReadsList (repeated sign.Near (read (spec.near_operand self.now.noise.now
+            (spec.opened self.now.noise.now self.now.depth) property)) reader.old)
             result reader.new }
     {
         let mut others = Vec::new(self.alloc);
@@ -165,15 +165,15 @@ impl<
         Ok(others)
     }
 
-    #[tactic(auto, unfolding(crate::specs::Grammar::near_operand))]
+    #[tactic(auto, unfolding(ci_dialect::specs::Grammar::near_operand))]
     fn near_operand(
         &self,
         reader: &mut Reader<'_, '_>,
         property: PropNo,
     ) -> Result<Restriction, QueryFault>
         requires { Opens self.now.depth (F.pre self.now.opened) (F.post self.now.opened) }
-        ensures { Reads (spec.near_operand self.now.noise.now
-            (spec.opened self.now.noise.now self.now.depth) property reader.old)
+        ensures { Reads (read (spec.near_operand self.now.noise.now
+            (spec.opened self.now.noise.now self.now.depth) property) reader.old)
             result reader.new }
     {
         let at = reader.place();
@@ -182,11 +182,11 @@ impl<
     }
 
     /// "(" query ")" | words | "@" .. | "#" ..
-    #[tactic(auto, unfolding(crate::specs::Grammar::prime))]
+    #[tactic(auto, unfolding(ci_dialect::specs::Grammar::prime))]
     fn prime(&self, reader: &mut Reader<'_, '_>) -> Result<Restriction, QueryFault>
         requires { Opens self.now.depth (F.pre self.now.opened) (F.post self.now.opened) }
-        ensures { Reads (spec.prime self.now.noise.now
-            (spec.opened self.now.noise.now self.now.depth) reader.old) result reader.new }
+        ensures { Reads (read (spec.prime self.now.noise.now
+            (spec.opened self.now.noise.now self.now.depth)) reader.old) result reader.new }
     {
         match reader.peek() {
             Some(PieceKind::Open) => {
@@ -204,7 +204,7 @@ impl<
 
     fn opened(&self, reader: &mut Reader<'_, '_>, by: Opener) -> Result<Restriction, QueryFault>
         requires { Opens self.now.depth (F.pre self.now.opened) (F.post self.now.opened) }
-        ensures { Reads (spec.opened self.now.noise.now self.now.depth by reader.old)
+        ensures { Reads (read (spec.opened self.now.noise.now self.now.depth by) reader.old)
             result reader.new }
     {
         (self.opened)(self.alloc, self.noise, reader, self.depth, by)
@@ -212,7 +212,7 @@ impl<
 }
 
 // The property of words or of a phrase.
-#[tactic(auto, unfolding(crate::specs::Joined::property_in))]
+#[tactic(auto, unfolding(ci_dialect::specs::Joined::property_in))]
 fn property_in(term: &Restriction) -> Option<PropNo>
     ensures { result ≡ terms.property_in term.now }
 {

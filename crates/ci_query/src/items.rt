@@ -1,5 +1,6 @@
 ghost use Rattle.std.specs.Prelude.{◌≡◌, ◌≢◌, ◌≤◌, IfOk, IfErr, IsTrue, length, take};
-ghost use Rattle.ci_query.specs.Words as spec;
+ghost use Rattle.ci_dialect.specs.Words as spec;
+ghost use Rattle.ci_dialect.specs.Step as step;
 ghost use Rattle.ci_query.specs.Words.{HasRead, IsTooLong};
 
 use crate::QueryFault;
@@ -13,8 +14,8 @@ pub const QUERY_WORDS: usize = 1024;
 
 /// How many items come first.
 pub fn len_of_items(pieces: &[Piece<'_>]) -> usize
-    ensures first { result ≡ length (spec.items_of pieces.now) }
-    ensures items { take result pieces.now ≡ spec.items_of pieces.now }
+    ensures first { result ≡ length (step.items_of pieces.now) }
+    ensures items { take result pieces.now ≡ step.items_of pieces.now }
     ensures within { result ≤ length pieces.now }
 {
     let found = pieces.iter().position(|piece| !is_item(piece.kind()));
@@ -26,7 +27,7 @@ pub fn words_of(alloc: Global, items: &[Piece<'_>], read: usize) -> Result<Vec<T
     requires { read ≤ 1024 }
     ensures ok { IfOk result (λ words. HasRead read items.now words.items) }
     ensures err { IfErr result (λ fault. fault ≢ QueryFault.OutOfMemory →
-        IsTooLong (spec.too_long read items.now) fault) }
+        IsTooLong (step.too_long read items.now) fault) }
 {
     let mut words = Vec::new(alloc);
     for item in items {

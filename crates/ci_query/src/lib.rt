@@ -1,7 +1,6 @@
 //! Queries: a text is read as a tree of restrictions, or as the first fault in it.
 #![tactic(auto)]
 
-mod fault;
 mod grammar;
 mod items;
 mod law;
@@ -9,14 +8,9 @@ mod operands;
 mod parsing;
 mod phrase;
 mod reader;
-mod restriction;
-mod sign;
-mod slots;
 mod term;
 mod value;
 
-pub use fault::{QueryFault, QueryKind};
+pub use ci_dialect::{QueryFault, QueryKind, Restriction, Slot, Slots};
 pub use law::{query_law, repetition_law};
 pub use parsing::{OPEN_SIGNS, parse};
-pub use restriction::{Operands, Restriction};
-pub use slots::{Slot, Slots};

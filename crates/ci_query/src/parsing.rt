@@ -1,16 +1,16 @@
 ghost use Rattle.std.specs.Prelude.{◌≡◌, ◌≢◌, IfErr, IfOk};
-ghost use Rattle.ci_query.specs.FirstFault.{IsFirstFault};
-ghost use Rattle.ci_query.specs.Grammar as spec;
-ghost use Rattle.ci_query.specs.Reading.{Gives, Reads};
-ghost use Rattle.ci_query.specs.Tree.{IsTree};
-ghost use Rattle.ci_query.specs.WellFormed.{IsWellFormed};
-ghost use Rattle.ci_query.specs.declared.fault.QueryFault.{QueryFault as Fault};
-ghost use Rattle.ci_query.specs.declared.restriction.Restriction.{Restriction as Node};
+ghost use Rattle.ci_dialect.specs.FirstFault.{IsFirstFault};
+ghost use Rattle.ci_dialect.specs.Grammar as spec;
+ghost use Rattle.ci_query.specs.Reading.{Reads, read};
+ghost use Rattle.ci_dialect.specs.Tree.{IsTree};
+ghost use Rattle.ci_dialect.specs.WellFormed.{IsWellFormed};
+ghost use Rattle.ci_dialect.specs.declared.fault.QueryFault.{QueryFault as Fault};
+ghost use Rattle.ci_dialect.specs.declared.restriction.Restriction.{Restriction as Node};
 
 use crate::grammar::Grammar;
 use crate::reader::Reader;
-use crate::sign::Opener;
 use crate::{QueryFault, Restriction};
+use ci_dialect::Opener;
 use ci_pieces::pieces;
 use ci_words::NoiseList;
 use std::alloc::Global;
@@ -20,7 +20,6 @@ pub const OPEN_SIGNS: usize = 64;
 
 /// The tree of a query, or the first fault in it.
 pub fn parse(alloc: Global, text: &str, noise: &NoiseList) -> Result<Restriction, QueryFault>
-    ensures parsed { Gives (spec.parsed noise.now text.now) result }
     ensures ok { IfOk result (λ tree. IsTree noise.now text.now tree) }
     ensures err { IfErr result (λ fault. fault ≢ QueryFault.OutOfMemory →
         IsFirstFault noise.now text.now fault) }
@@ -39,13 +38,13 @@ pub fn parse(alloc: Global, text: &str, noise: &NoiseList) -> Result<Restriction
 }
 
 // A query, behind which the text ends.
-#[tactic(auto, unfolding(crate::specs::Grammar::whole))]
+#[tactic(auto, unfolding(ci_dialect::specs::Grammar::whole))]
 fn whole(
     alloc: Global,
     noise: &NoiseList,
     reader: &mut Reader<'_, '_>,
 ) -> Result<Restriction, QueryFault>
-    ensures { Reads (spec.whole noise.now reader.old) result reader.new }
+    ensures { Reads (read (spec.whole noise.now) reader.old) result reader.new }
 {
     let grammar = Grammar {
         alloc,
@@ -68,7 +67,7 @@ fn opened(
     depth: usize,
     by: Opener,
 ) -> Result<Restriction, QueryFault>
-    ensures { Reads (spec.opened noise.now depth by reader.old) result reader.new }
+    ensures { Reads (read (spec.opened noise.now depth by) reader.old) result reader.new }
 {
     if depth == 0 {
         let at = reader.place();

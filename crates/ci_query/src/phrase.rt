@@ -1,9 +1,10 @@
 ghost use Rattle.std.specs.Prelude.{◌≡◌, ◌<◌, ◌↔◌, ◌++◌, ◌∷◌, [], List, IfOk, IfSome, IsTrue, OnOk, find, length};
 ghost use Rattle.std.specs.Option.{option_copied};
-ghost use Rattle.ci_query.specs.Left.{place_in};
+ghost use Rattle.ci_dialect.specs.Left.{place_in};
 ghost use Rattle.ci_query.specs.Reading.{Gives};
-ghost use Rattle.ci_query.specs.Words as spec;
-ghost use Rattle.ci_query.specs.declared.slots.Slot.{Slot as Slot'};
+ghost use Rattle.ci_dialect.specs.Words as spec;
+ghost use Rattle.ci_query.specs.Words.{with_slot};
+ghost use Rattle.ci_dialect.specs.declared.slots.Slot.{Slot as Slot'};
 
 use crate::items::{is_prefix_run, is_starred, without_star};
 use crate::{QueryFault, Restriction, Slot, Slots};
@@ -127,7 +128,7 @@ fn add_slot(
     slots: &mut Vec<Slot>,
 ) -> Result<(), OutOfMemory>
     ensures { OnOk result (slots.new.items
-        ≡ spec.with_slot slots.old.items (spec.slot_of noise.now word.now)) }
+        ≡ with_slot slots.old.items (spec.slot_of noise.now word.now)) }
 {
     if !is_noise(noise, word) {
         slots.push(Slot::Word(word.copy(alloc)?))?;

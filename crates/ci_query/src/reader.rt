@@ -1,13 +1,13 @@
 ghost use Rattle.std.specs.Prelude.{◌≡◌, ◌≢◌, IfOk, IfErr, OnOk, length};
-ghost use Rattle.ci_query.specs.Left as left;
-ghost use Rattle.ci_query.specs.Reading as spec;
-ghost use Rattle.ci_query.specs.Grammar.{value};
-ghost use Rattle.ci_query.specs.Words.{items, words_of as read_words};
+ghost use Rattle.ci_dialect.specs.Left as left;
+ghost use Rattle.ci_dialect.specs.Step as spec;
+ghost use Rattle.ci_query.specs.Reading.{eat};
+ghost use Rattle.ci_dialect.specs.Words.{words_of as read_words};
 
 use crate::QueryFault;
 use crate::items::{len_of_items, words_of};
-use crate::sign::Sign;
 use ci_base::Text;
+use ci_dialect::Sign;
 use ci_pieces::{Piece, PieceKind};
 use std::alloc::Global;
 use std::marker::Model;
@@ -21,7 +21,7 @@ pub struct Reader<'a, 't> {
 }
 
 impl<'a, 't> Model for Reader<'a, 't> {
-    ghost use Rattle.ci_query.specs.Left.{Left};
+    ghost use Rattle.ci_dialect.specs.Left.{Left};
 
     ghost Value = { Left };
 
@@ -110,7 +110,7 @@ impl<'a, 't> Reader<'a, 't> {
 
     /// Takes the sign, if it comes next.
     pub fn eat(&mut self, sign: Sign) -> bool
-        ensures { spec.eat sign self.old ≡ Ok (result, self.new) }
+        ensures { eat sign self.old ≡ Ok (result, self.new) }
     {
         let found = self.sees(sign);
         if found {
@@ -131,10 +131,10 @@ impl<'a, 't> Reader<'a, 't> {
 
     /// Takes the items that come next, and gives their words beside them.
     pub fn items(&mut self, alloc: Global) -> Result<(&'a [Piece<'t>], Vec<Text>), QueryFault>
-        ensures ok { IfOk result (λ read. items self.old ≡ Ok (read.0.now, self.new)) }
+        ensures ok { IfOk result (λ read. spec.items self.old ≡ Ok (read.0.now, self.new)) }
         ensures words { IfOk result (λ read. read.1.items ≡ read_words read.0.now) }
         ensures err { IfErr result (λ fault. fault ≢ QueryFault.OutOfMemory →
-            items self.old ≡ Err fault) }
+            spec.items self.old ≡ Err fault) }
     {
         let pieces = self.pieces;
         let count = len_of_items(pieces);
@@ -146,8 +146,8 @@ impl<'a, 't> Reader<'a, 't> {
 
     /// Takes a value.
     pub fn value(&mut self) -> Result<&'a Piece<'t>, QueryFault>
-        ensures ok { IfOk result (λ given. value self.old ≡ Ok (given.now, self.new)) }
-        ensures err { IfErr result (λ fault. value self.old ≡ Err fault) }
+        ensures ok { IfOk result (λ given. spec.value self.old ≡ Ok (given.now, self.new)) }
+        ensures err { IfErr result (λ fault. spec.value self.old ≡ Err fault) }
     {
         match self.peek() {
             Some(PieceKind::Quoted) => self.take(),

@@ -1,5 +1,5 @@
-ghost use Rattle.ci_query.specs.Grammar as spec;
-ghost use Rattle.ci_query.specs.Reading.{Reads};
+ghost use Rattle.ci_dialect.specs.Grammar as spec;
+ghost use Rattle.ci_query.specs.Reading.{Reads, read};
 
 use crate::phrase::restriction_of;
 use crate::reader::Reader;
@@ -14,26 +14,26 @@ use std::alloc::Global;
 const CONTENTS: PropNo = PropNo(1);
 
 /// Words, or a prefix run, of a document's text.
-#[tactic(auto, unfolding(crate::specs::Grammar::words))]
+#[tactic(auto, unfolding(ci_dialect::specs::Grammar::words))]
 pub fn words(
     alloc: Global,
     noise: &NoiseList,
     reader: &mut Reader<'_, '_>,
 ) -> Result<Restriction, QueryFault>
-    ensures reads { Reads (spec.words noise.now reader.old) result reader.new }
+    ensures reads { Reads (read (spec.words noise.now) reader.old) result reader.new }
 {
     let (items, words) = reader.items(alloc)?;
     restriction_of(alloc, noise, CONTENTS, items, words)
 }
 
 /// `@` and a name, with words, or with a comparison and a value.
-#[tactic(auto, unfolding(crate::specs::Grammar::property_term))]
+#[tactic(auto, unfolding(ci_dialect::specs::Grammar::property_term))]
 pub fn property_term(
     alloc: Global,
     noise: &NoiseList,
     reader: &mut Reader<'_, '_>,
 ) -> Result<Restriction, QueryFault>
-    ensures reads { Reads (spec.property_term noise.now reader.old) result reader.new }
+    ensures reads { Reads (read (spec.property_term noise.now) reader.old) result reader.new }
 {
     let name = reader.take()?;
     match reader.peek() {
@@ -55,7 +55,7 @@ fn named_words(
     reader: &mut Reader<'_, '_>,
     name: &Piece<'_>,
 ) -> Result<Restriction, QueryFault>
-    ensures reads { Reads (spec.named_words noise.now name.now reader.old) result reader.new }
+    ensures reads { Reads (read (spec.named_words noise.now name.now) reader.old) result reader.new }
 {
     let (items, words) = reader.items(alloc)?;
     let property = worded(name)?;
@@ -63,9 +63,9 @@ fn named_words(
 }
 
 /// `#` and a name, with a value.
-#[tactic(auto, unfolding(crate::specs::Grammar::pattern_term))]
+#[tactic(auto, unfolding(ci_dialect::specs::Grammar::pattern_term))]
 pub fn pattern_term(alloc: Global, reader: &mut Reader<'_, '_>) -> Result<Restriction, QueryFault>
-    ensures reads { Reads (spec.pattern_term reader.old) result reader.new }
+    ensures reads { Reads (read spec.pattern_term reader.old) result reader.new }
 {
     let name = reader.take()?;
     let given = reader.value()?;

@@ -1,7 +1,7 @@
 ghost use Rattle.std.specs.Prelude.{◌≡◌, IfOk};
 ghost use Rattle.std.specs.List.{list_all};
 ghost use Rattle.ci_query.specs.Reading.{Gives};
-ghost use Rattle.ci_query.specs.Values as spec;
+ghost use Rattle.ci_dialect.specs.Values as spec;
 
 use crate::{QueryFault, Restriction};
 use ci_base::{OutOfMemory, PathFault, PropNo, Text, Value};

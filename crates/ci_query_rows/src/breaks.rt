@@ -3,6 +3,7 @@
 ghost use Rattle.std.specs.Prelude.{◌≡◌, ◌+◌, ◌≤◌, IfOk, OnOk, length};
 ghost use Rattle.ci_entry.specs.Entry.{text_bytes};
 
+use crate::table::{Table, unmet};
 use ci_base::{PathText, PropNo, Text, Value};
 use ci_chunk::{Break, ChunkState, Piece, StatChunk, Transcript};
 use ci_entry::entry_of;
@@ -66,55 +67,59 @@ fn broken(alloc: Global, break_type: Break, property: u16) -> Result<Transcript,
     Ok(read)
 }
 
-#[test]
-fn a_phrase_ends_with_its_sentence(rt: HostRuntime) -> Result<(), Fail> {
-    let alloc = rt.alloc();
-    for (break_type, wanted) in [
-        (Break::NoBreak, false),
-        (Break::Eow, true),
-        (Break::Eos, false),
-        (Break::Eop, false),
-        (Break::Eoc, false),
-    ] {
-        let read = broken(alloc, break_type, 1)?;
-        assert_eq!(rt; holds(alloc, &read, "\"fire fox\"")?, wanted);
+// Whether a document of the words fire and fox, with this break between them, satisfies a query.
+fn broken_holds(
+    alloc: Global,
+    break_type: Break,
+    property: u16,
+    query: &str,
+) -> Result<bool, Fail> {
+    holds(alloc, &broken(alloc, break_type, property)?, query)
+}
+
+fn break_named(name: &str) -> Break {
+    match name {
+        "Eow" => Break::Eow,
+        "Eos" => Break::Eos,
+        "Eop" => Break::Eop,
+        "Eoc" => Break::Eoc,
+        _ => Break::NoBreak,
     }
-    Ok(())
 }
 
-#[test]
-fn near_goes_over_the_end_of_a_sentence(rt: HostRuntime) -> Result<(), Fail> {
-    let alloc = rt.alloc();
-    for (break_type, wanted) in [
-        (Break::Eow, true),
-        (Break::Eos, true),
-        (Break::Eop, false),
-        (Break::Eoc, false),
-    ] {
-        let read = broken(alloc, break_type, 1)?;
-        assert_eq!(rt; holds(alloc, &read, "fire ~ fox")?, wanted);
-        assert!(rt; holds(alloc, &read, "fire & fox")?);
+// Rows of a break, the number of a property, and a query.
+struct OverBreaks;
+
+impl Table for OverBreaks {
+    fn told(alloc: Global, given: &str) -> Result<String, Fail> {
+        let (name, rest) = given.split_once(' ').ok_or("a break")?;
+        let (property, query) = rest.split_once(' ').ok_or("a property")?;
+        let property = if property == "5" { 5 } else { 1 };
+        let held = broken_holds(alloc, break_named(name), property, query)?;
+        Ok(format!(in alloc; "{held}")?)
     }
-    Ok(())
 }
 
 #[test]
-fn no_break_makes_one_word(rt: HostRuntime) -> Result<(), Fail> {
-    let alloc = rt.alloc();
-    let read = broken(alloc, Break::NoBreak, 1)?;
-    assert!(rt; holds(alloc, &read, "firefox")?);
-    assert!(rt; !holds(alloc, &read, "fire | fox")?);
-    Ok(())
-}
-
-#[test]
-fn words_are_those_of_their_property(rt: HostRuntime) -> Result<(), Fail> {
-    let alloc = rt.alloc();
-    let read = broken(alloc, Break::Eow, 5)?;
-    assert!(rt; holds(alloc, &read, "@DocTitle fire fox")?);
-    assert!(rt; holds(alloc, &read, "@DocTitle fi* ~ @DocTitle fox")?);
-    assert!(rt; !holds(alloc, &read, "fire")?);
-    assert!(rt; !holds(alloc, &read, "@DocAuthor fire")?);
+fn a_break_parts_the_words_of_a_phrase(rt: HostRuntime) -> Result<(), Fail> {
+    const ROWS: &str = "\
+NoBreak 1 \"fire fox\" => false
+Eow 1 \"fire fox\" => true
+Eos 1 \"fire fox\" => false
+Eop 1 \"fire fox\" => false
+Eoc 1 \"fire fox\" => false
+Eow 1 fire ~ fox => true
+Eos 1 fire ~ fox => true
+Eop 1 fire ~ fox => false
+Eoc 1 fire ~ fox => false
+Eoc 1 fire & fox => true
+NoBreak 1 firefox => true
+NoBreak 1 fire | fox => false
+Eow 5 @DocTitle fire fox => true
+Eow 5 @DocTitle fi* ~ @DocTitle fox => true
+Eow 5 fire => false
+Eow 5 @DocAuthor fire => false";
+    assert_eq!(rt; unmet::<OverBreaks>(rt.alloc(), ROWS)?.as_str(), "");
     Ok(())
 }
 
@@ -131,21 +136,34 @@ fn written(alloc: Global, time: i64) -> Result<Transcript, Fail>
     Ok(read)
 }
 
+// Whether that document satisfies a query.
+fn written_holds(alloc: Global, time: i64, query: &str) -> Result<bool, Fail> {
+    holds(alloc, &written(alloc, time)?, query)
+}
+
+// Rows of a time and a query.
+struct AtTimes;
+
+impl Table for AtTimes {
+    fn told(alloc: Global, given: &str) -> Result<String, Fail> {
+        let (time, query) = given.split_once(' ').ok_or("a time")?;
+        let time = time.parse::<i64>().ok().ok_or("a number")?;
+        let held = written_holds(alloc, time, query)?;
+        Ok(format!(in alloc; "{held}")?)
+    }
+}
+
 #[test]
 fn numbers_compare_by_value(rt: HostRuntime) -> Result<(), Fail> {
-    let alloc = rt.alloc();
-    for (time, query, wanted) in [
-        (-5, "@Write >= -5", true),
-        (-6, "@Write >= -5", false),
-        (10, "@Write >= -5", true),
-        (10, "@Write > 9", true),
-        (10, "@Write < 9", false),
-        (10, "@Write != 10", false),
-        (10, "@Write <= 10", true),
-        (10, "@Size >= -5", false),
-    ] {
-        let read = written(alloc, time)?;
-        assert_eq!(rt; holds(alloc, &read, query)?, wanted, "{query} of {time}");
-    }
+    const ROWS: &str = "\
+-5 @Write >= -5 => true
+-6 @Write >= -5 => false
+10 @Write >= -5 => true
+10 @Write > 9 => true
+10 @Write < 9 => false
+10 @Write != 10 => false
+10 @Write <= 10 => true
+10 @Size >= -5 => false";
+    assert_eq!(rt; unmet::<AtTimes>(rt.alloc(), ROWS)?.as_str(), "");
     Ok(())
 }

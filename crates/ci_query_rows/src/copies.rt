@@ -1,8 +1,9 @@
 //! Copies of trees equal them, and lists of places are handed in and out.
 
 use crate::show::show;
+use crate::table::{Table, unmet};
 use ci_base::Text;
-use ci_query::{Operands, Restriction, Slot, Slots, parse};
+use ci_query::{Restriction, Slot, Slots, parse};
 use ci_words::NoiseList;
 use std::alloc::Global;
 use std::test::Fail;
@@ -17,38 +18,38 @@ fn shown(alloc: Global, tree: &Restriction) -> Result<String, Fail> {
     Ok(out)
 }
 
-#[test]
-fn a_copy_of_each_kind_equals_it(rt: HostRuntime) -> Result<(), Fail> {
-    let alloc = rt.alloc();
-    for text in [
-        "red",
-        "re*",
-        "king of hearts",
-        "red ~ king of hearts ~ re*",
-        "@Size >= -5",
-        "@DocTitle != \"Night train\"",
-        "#Filename *.txt",
-        "#scope /",
-        "#scope /d/e",
-        "red & !(blue | green) & black",
-    ] {
-        let one = tree(alloc, text)?;
-        let other = one.copy(alloc)?;
-        let (one, other) = (shown(alloc, &one)?, shown(alloc, &other)?);
-        assert_eq!(rt; one.as_str(), other.as_str());
+/// Whether the copy of a text's tree is shown as the tree is.
+pub(crate) fn is_copied(alloc: Global, text: &str) -> Result<bool, Fail> {
+    let one = tree(alloc, text)?;
+    let other = one.copy(alloc)?;
+    let (one, other) = (shown(alloc, &one)?, shown(alloc, &other)?);
+    Ok(one.as_str() == other.as_str())
+}
+
+// Rows of queries.
+struct Copied;
+
+impl Table for Copied {
+    fn told(alloc: Global, given: &str) -> Result<String, Fail> {
+        let same = is_copied(alloc, given)?;
+        Ok(format!(in alloc; "{same}")?)
     }
-    Ok(())
 }
 
 #[test]
-fn a_copy_of_operands_equals_them(rt: HostRuntime) -> Result<(), Fail> {
-    let alloc = rt.alloc();
-    let Restriction::Or(any) = tree(alloc, "red | blue | green")? else {
-        return Err("an Or".into());
-    };
-    let copy = Restriction::Or(any.copy(alloc)?);
-    let copy = shown(alloc, &copy)?;
-    assert_eq!(rt; copy.as_str(), "|(1:red (1:blue (1:green)))");
+fn a_copy_of_each_kind_equals_it(rt: HostRuntime) -> Result<(), Fail> {
+    const ROWS: &str = "\
+red => true
+re* => true
+king of hearts => true
+red ~ king of hearts ~ re* => true
+@Size >= -5 => true
+@DocTitle != \"Night train\" => true
+#Filename *.txt => true
+#scope / => true
+#scope /d/e => true
+red & !(blue | green) & black => true";
+    assert_eq!(rt; unmet::<Copied>(rt.alloc(), ROWS)?.as_str(), "");
     Ok(())
 }
 
@@ -60,27 +61,22 @@ fn slots(alloc: Global) -> Result<Vec<Slot>, Fail> {
     Ok(list)
 }
 
-fn is_king(slot: &Slot) -> bool {
-    match slot {
-        Slot::Word(word) => word.as_str() == "king",
-        Slot::Open => false,
+// The copies of some slots and of each of them, an open place as an underscore.
+fn copied_slots(alloc: Global) -> Result<String, Fail> {
+    let list = Slots::new(slots(alloc)?).copy(alloc)?;
+    let mut told = String::new(alloc);
+    for slot in list.items() {
+        match slot.copy(alloc)? {
+            Slot::Word(word) => told.push_str(word.as_str())?,
+            Slot::Open => told.push('_')?,
+        }
     }
+    write!(told, " {}", list.into_vec().len())?;
+    Ok(told)
 }
 
 #[test]
 fn a_copy_of_slots_equals_them(rt: HostRuntime) -> Result<(), Fail> {
-    let alloc = rt.alloc();
-    let list = Slots::new(slots(alloc)?);
-    let copy = list.copy(alloc)?;
-    match copy.items() {
-        [first, second] => {
-            assert!(rt; is_king(first));
-            assert!(rt; matches!(second, Slot::Open));
-            assert!(rt; is_king(&first.copy(alloc)?));
-            assert!(rt; matches!(second.copy(alloc)?, Slot::Open));
-        }
-        _ => assert!(rt; false),
-    }
-    assert_eq!(rt; list.into_vec().len(), 2);
+    assert_eq!(rt; copied_slots(rt.alloc())?.as_str(), "king_ 2");
     Ok(())
 }

@@ -6,6 +6,8 @@ mod breaks;
 #[cfg(test)]
 mod copies;
 #[cfg(test)]
+mod cost;
+#[cfg(test)]
 mod faults;
 #[cfg(test)]
 mod limits;
@@ -15,3 +17,5 @@ mod query;
 mod satisfy;
 #[cfg(test)]
 mod show;
+#[cfg(test)]
+mod table;

@@ -1,9 +1,10 @@
 //! Restrictions and faults as short texts, such as `&(1:red !1:blue)` and `Bad 4`.
 
+use crate::table::Table;
 use ci_base::Value;
 use ci_paths::Prefix;
 use ci_props::Relation;
-use ci_query::{Operands, QueryFault, QueryKind, Restriction, Slot, parse};
+use ci_query::{QueryFault, QueryKind, Restriction, Slot, parse};
 use ci_words::NoiseList;
 use std::alloc::Global;
 use std::test::Fail;
@@ -12,6 +13,15 @@ use std::test::Fail;
 pub(crate) fn read(alloc: Global, text: &str) -> Result<String, Fail> {
     let noise = NoiseList::standard(alloc)?;
     shown(alloc, &parse(alloc, text, &noise))
+}
+
+/// Rows of queries.
+pub(crate) struct Readings;
+
+impl Table for Readings {
+    fn told(alloc: Global, given: &str) -> Result<String, Fail> {
+        read(alloc, given)
+    }
 }
 
 // The tree, or the fault with its place.
@@ -66,7 +76,7 @@ pub(crate) fn show(out: &mut String, tree: &Restriction) -> Result<(), Fail> {
         }
         Restriction::Proximity { property, terms } => {
             write!(out, "~{}", property.0)?;
-            show_list(out, terms)?;
+            show_list(out, terms.as_slice())?;
         }
         Restriction::Property {
             property,
@@ -80,8 +90,8 @@ pub(crate) fn show(out: &mut String, tree: &Restriction) -> Result<(), Fail> {
             write!(out, "{}#{}", property.0, pattern.as_str())?;
         }
         Restriction::Scope(prefix) => show_prefix(out, prefix)?,
-        Restriction::And(all) => show_joined(out, '&', all)?,
-        Restriction::Or(any) => show_joined(out, '|', any)?,
+        Restriction::And(all) => show_joined(out, '&', all.as_slice())?,
+        Restriction::Or(any) => show_joined(out, '|', any.as_slice())?,
         Restriction::Not(one) => {
             out.push('!')?;
             show(out, one.get())?;
@@ -122,26 +132,20 @@ fn show_slots(out: &mut String, slots: &[Slot]) -> Result<(), Fail> {
 }
 
 #[cycle(show)]
-fn show_joined(out: &mut String, sign: char, list: &Operands) -> Result<(), Fail> {
+fn show_joined(out: &mut String, sign: char, list: &[Restriction]) -> Result<(), Fail> {
     out.push(sign)?;
     show_list(out, list)
 }
 
 #[cycle(show)]
-fn show_list(out: &mut String, list: &Operands) -> Result<(), Fail> {
-    match list {
-        Operands::One(one) => {
-            out.push('(')?;
-            show(out, one.get())?;
-            out.push(')')?;
-        }
-        Operands::More(first, rest) => {
-            out.push('(')?;
-            show(out, first.get())?;
+fn show_list(out: &mut String, list: &[Restriction]) -> Result<(), Fail> {
+    out.push('(')?;
+    for (i, one) in list.iter().enumerate() {
+        if i > 0 {
             out.push(' ')?;
-            show_list(out, rest.get())?;
-            out.push(')')?;
         }
+        show(out, one)?;
     }
+    out.push(')')?;
     Ok(())
 }

@@ -1,1 +1,3 @@
 pub mod NearLemmas
+pub mod WalkLemmas
+pub mod WordLemmas

@@ -1,18 +1,21 @@
 -- Places near one another, term by term.
-use Rattle.std.proofs.Common.{◌≡◌, ◌&&◌, ◌||◌, ◌==◌, Bool, true, false, not, cond, List, [], ◌∷◌, ℕ, filter, length, refl, sym, ap, ◌∙◌, arith}
+use Rattle.std.proofs.Common.{◌≡◌, ◌+◌, ◌-◌, ◌&&◌, ◌||◌, ◌==◌, Bool, true, false, not, cond, List, [], ◌∷◌, ℕ, filter, length, refl, sym, ap, ◌∙◌, arith}
 use Rattle.std.specs.List.{list_any}
 use Rattle.std.proofs.lemmas.Bool.{ne_eqb}
-use Rattle.ci_query.specs.declared.restriction.Operands.{Operands}
-use Rattle.ci_query.specs.declared.restriction.Operands.TheVariants.{More, One}
-use Rattle.ci_query.specs.declared.restriction.Restriction.{Restriction}
-use Rattle.ci_query.specs.Near.{are_near, is_near, listed, near_behind, term_places}
-use Rattle.ci_query.specs.Places.{Words}
-use Rattle.ci_query.proofs.TreeLemmas.{listed-more, listed-one}
+use Rattle.std.proofs.lemmas.Bool.Decides.{nat_tests}
+use Rattle.std.proofs.lemmas.List.Elements.{filter_agree}
+use Rattle.ci_base.specs.declared.numbers.Place.{Place}
+use Rattle.ci_dialect.specs.declared.restriction.Restriction.{Restriction}
+use Rattle.ci_dialect.specs.Near.{are_near, is_near, near_behind, term_places}
+use Rattle.ci_dialect.specs.Places.{Words}
+use Rattle.ci_restrict.specs.Walk.{HaveTheSame, is_between, numbers}
+use Rattle.ci_restrict.proofs.WalkLemmas.{stands}
+use Rattle.ci_restrict.proofs.WordLemmas.{any-same}
 
--- there is an element
-pub any-true : {A : Type 0} (xs : List A) → not (length xs == 0) ≡ list_any (λ x. true) xs
-any-true [] = refl
-any-true (x ∷ xs) = ap not (ne_eqb (length (x ∷ xs)) 0 (λ e. omega arith))
+-- there is a place
+pub any-place : (places : List Place) → not (length places == 0) ≡ list_any (λ p. true) (numbers places)
+any-place [] = refl
+any-place (p ∷ places) = ap not (ne_eqb (length (p ∷ places)) 0 (λ e. omega arith))
 
 or-and : (a b c : Bool) → ((a || b) && c) ≡ ((a && c) || (b && c))
 or-and true true true = refl
@@ -38,10 +41,6 @@ any-or : {A : Type 0} (f g : A → Bool) (xs : List A) → list_any (λ x. f x |
 any-or f g [] = refl
 any-or f g (x ∷ xs) = ap (λ b. (f x || g x) || b) (any-or f g xs) ∙ or-swap (f x) (g x) (list_any f xs) (list_any g xs)
 
-any-same : {A : Type 0} (f g : A → Bool) (xs : List A) → ((x : A) → f x ≡ g x) → list_any f xs ≡ list_any g xs
-any-same f g [] same = refl
-any-same f g (x ∷ xs) same = ap (λ b. b || list_any f xs) (same x) ∙ ap (λ b. g x || b) (any-same f g xs same)
-
 -- what passes among those that were kept
 any-filter : {A : Type 0} (f g : A → Bool) (xs : List A) → list_any g (filter f xs) ≡ list_any (λ x. f x && g x) xs
 any-filter f g [] = refl
@@ -60,25 +59,27 @@ any-pairs r g (x ∷ xs) ys =
     ∙ ap (λ b. list_any (λ q. r x q && g q) ys || b) (any-pairs r g xs ys)
 
 -- a place that is near one before, and from which the rest goes on
-pub any-near : (r : ℕ → ℕ → Bool) (g : ℕ → Bool) (before all : List ℕ) → list_any g (filter (λ q. list_any (λ p. r p q) before) all) ≡ list_any (λ p. list_any (λ q. r p q && g q) all) before
+any-near : (r : ℕ → ℕ → Bool) (g : ℕ → Bool) (before all : List ℕ) → list_any g (filter (λ q. list_any (λ p. r p q) before) all) ≡ list_any (λ p. list_any (λ q. r p q && g q) all) before
 any-near r g before all = any-filter (λ q. list_any (λ p. r p q) before) g all ∙ any-pairs r g before all
 
--- the last term has a place near one before
-pub behind-one : (words : Words) (before places : List ℕ) (term : Restriction) → places ≡ filter (λ q. list_any (λ p. is_near p q) before) (term_places words term) → list_any (λ p. true) places ≡ list_any (λ p. near_behind words p (listed (One term))) before
-behind-one words before places term are =
-    ap (list_any (λ p. true)) are
-    ∙ any-near is_near (λ p. true) before (term_places words term)
-    ∙ sym (ap (λ terms. list_any (λ p. near_behind words p terms) before) (listed-one term))
+within-fifty : (p q : ℕ) → is_between (q + 0 - 50) (q + 0 + 50) p ≡ is_near p q
+within-fifty p q = grind (arith, nat_tests)
 
-pub behind-more : (words : Words) (before places : List ℕ) (term : Restriction) (rest : Operands) → places ≡ filter (λ q. list_any (λ p. is_near p q) before) (term_places words term) → list_any (λ p. near_behind words p (listed rest)) places ≡ list_any (λ p. near_behind words p (listed (More term rest))) before
-behind-more words before places term rest are =
-    ap (list_any (λ p. near_behind words p (listed rest))) are
-    ∙ any-near is_near (λ p. near_behind words p (listed rest)) before (term_places words term)
-    ∙ sym (ap (λ terms. list_any (λ p. near_behind words p terms) before) (listed-more term rest))
+near-those : (before all : List ℕ) → filter (stands 0 50 before) all ≡ filter (λ q. list_any (λ p. is_near p q) before) all
+near-those before all =
+    filter_agree (stands 0 50 before) (λ q. list_any (λ p. is_near p q) before)
+    (λ q. any-same (is_between (q + 0 - 50) (q + 0 + 50)) (λ p. is_near p q) before (λ p. within-fifty p q)) all
 
--- one term stands where it stands at all
-pub near-one : (words : Words) (places : List ℕ) (term : Restriction) → places ≡ term_places words term → list_any (λ p. true) places ≡ are_near words (listed (One term))
-near-one words places term are = ap (list_any (λ p. true)) are ∙ sym (ap (are_near words) (listed-one term))
+module _ (words : Words) (term : Restriction) (all : List ℕ) (same : HaveTheSame all (term_places words term)) where
+  -- the first term stands at all its places
+  pub near-first : (more : List Restriction) → list_any (λ p. near_behind words p more) all ≡ are_near words (term ∷ more)
+  near-first more = same (λ p. near_behind words p more)
 
-pub near-more : (words : Words) (places : List ℕ) (term : Restriction) (rest : Operands) → places ≡ term_places words term → list_any (λ p. near_behind words p (listed rest)) places ≡ are_near words (listed (More term rest))
-near-more words places term rest are = ap (list_any (λ p. near_behind words p (listed rest))) are ∙ sym (ap (are_near words) (listed-more term rest))
+  -- of a later term those places go on that are near one before
+  pub near-more : (more : List Restriction) (before kept : List ℕ) → kept ≡ filter (stands 0 50 before) all →
+      list_any (λ p. near_behind words p (term ∷ more)) before ≡ list_any (λ p. near_behind words p more) kept
+  near-more more before kept are =
+      any-same (λ p. near_behind words p (term ∷ more)) (λ p. list_any (λ q. is_near p q && near_behind words q more) all) before
+      (λ p. sym (same (λ q. is_near p q && near_behind words q more)))
+      ∙ sym (any-near is_near (λ q. near_behind words q more) before all)
+      ∙ ap (list_any (λ q. near_behind words q more)) (sym (are ∙ near-those before all))

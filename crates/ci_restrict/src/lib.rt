@@ -4,6 +4,7 @@
 mod near;
 mod sat;
 mod value;
+mod walk;
 mod word;
 
 pub use sat::satisfies;

@@ -1,121 +1,65 @@
-ghost use Rattle.std.specs.Prelude.{◌≡◌, true, IfOk, filter};
+ghost use Rattle.std.specs.Prelude.{◌≡◌, IfOk};
 ghost use Rattle.std.specs.List.{list_any};
-ghost use Rattle.ci_query.specs.Near as spec;
+ghost use Rattle.ci_dialect.specs.Near as spec;
+ghost use Rattle.ci_restrict.specs.Walk.{HaveTheSame, Rise, numbers};
 
+use crate::walk::those_with;
 use crate::word::{phrase_places, places_of};
-use ci_base::OutOfMemory;
-use ci_keys::{Key, Places};
-use ci_query::{Operands, Restriction};
+use ci_base::{OutOfMemory, Place};
+use ci_dialect::Restriction;
+use ci_keys::Entry;
 use std::alloc::Global;
 
 /// By how much the places of neighbours differ at most.
-const NEAR_PLACES: u32 = 50;
+const NEAR_PLACES: u64 = 50;
 
 /// Whether there are places, one for each term in order, of which neighbours are near.
-pub fn are_near(
-    alloc: Global,
-    words: &[(Key, Places)],
-    terms: &Operands,
-) -> Result<bool, OutOfMemory>
-    ensures { IfOk result (λ yes. yes ≡ spec.are_near words.now (spec.listed terms.now)) }
+pub fn are_near(alloc: Global, entry: &Entry, terms: &[Restriction]) -> Result<bool, OutOfMemory>
+    ensures { IfOk result (λ yes. yes ≡ spec.are_near entry.now.words terms.now) }
 {
     match terms {
-        Operands::One(only) => {
-            let places = term_places(alloc, words, only.get())?;
-            Ok(has_some(places.as_slice()))
-        }
-        Operands::More(first, rest) => {
-            let places = term_places(alloc, words, first.get())?;
-            are_near_behind(alloc, words, places.as_slice(), rest.get())
+        [] => Ok(true),
+        [first, more @ ..] => {
+            let places = term_places(alloc, entry, first)?;
+            are_behind(alloc, entry, places, more)
         }
     }
 }
 
-/// Whether there is a place.
-pub fn has_some(places: &[u32]) -> bool
-    ensures { result ≡ list_any (λ p. true) places.now }
-{
-    !places.is_empty()
-}
-
-// Whether the terms stand behind one of the places.
-fn are_near_behind(
+// Whether the terms stand behind one of the places. Of each term those places are kept that are
+// near one of the term before.
+fn are_behind(
     alloc: Global,
-    words: &[(Key, Places)],
-    before: &[u32],
-    terms: &Operands,
+    entry: &Entry,
+    first: Vec<Place>,
+    terms: &[Restriction],
 ) -> Result<bool, OutOfMemory>
-    ensures { IfOk result (λ yes. yes
-        ≡ list_any (λ p. spec.near_behind words.now p (spec.listed terms.now)) before.now) }
+    requires { Rise first.items }
+    ensures { IfOk result (λ yes. yes ≡ list_any
+        (λ p. spec.near_behind entry.now.words p terms.now) (numbers first.items)) }
 {
-    match terms {
-        Operands::One(only) => {
-            let places = near_places(alloc, words, before, only.get())?;
-            Ok(has_some(places.as_slice()))
-        }
-        Operands::More(first, rest) => {
-            let places = near_places(alloc, words, before, first.get())?;
-            are_near_behind(alloc, words, places.as_slice(), rest.get())
-        }
+    let mut places = first;
+    for term in terms {
+        let all = term_places(alloc, entry, term)?;
+        places = those_with(alloc, all.as_slice(), places.as_slice(), 0, NEAR_PLACES)?;
     }
-}
-
-// The places of a term that are near one of those before.
-fn near_places(
-    alloc: Global,
-    words: &[(Key, Places)],
-    before: &[u32],
-    term: &Restriction,
-) -> Result<Vec<u32>, OutOfMemory>
-    ensures { IfOk result (λ places. places.items
-        ≡ filter (λ q. list_any (λ p. spec.is_near p q) before.now)
-        (spec.term_places words.now term.now)) }
-{
-    let all = term_places(alloc, words, term)?;
-    near_those(alloc, before, all.as_slice())
-}
-
-fn near_those(alloc: Global, before: &[u32], all: &[u32]) -> Result<Vec<u32>, OutOfMemory>
-    ensures { IfOk result (λ places. places.items
-        ≡ filter (λ q. list_any (λ p. spec.is_near p q) before.now) all.now) }
-{
-    let mut places = Vec::new(alloc);
-    for place in all {
-        if is_near_one(before, *place) {
-            places.push(*place)?;
-        }
-    }
-    Ok(places)
-}
-
-fn is_near_one(before: &[u32], place: u32) -> bool
-    ensures { result ≡ list_any (λ p. spec.is_near p place) before.now }
-{
-    before.iter().any(|other| is_near(*other, place))
-}
-
-fn is_near(one: u32, other: u32) -> bool
-    ensures { result ≡ spec.is_near one other }
-{
-    one.saturating_sub(other) <= NEAR_PLACES && other.saturating_sub(one) <= NEAR_PLACES
+    Ok(!places.is_empty())
 }
 
 // The places at which a term begins.
-fn term_places(
-    alloc: Global,
-    words: &[(Key, Places)],
-    term: &Restriction,
-) -> Result<Vec<u32>, OutOfMemory>
-    ensures { IfOk result (λ places. places.items ≡ spec.term_places words.now term.now) }
+fn term_places(alloc: Global, entry: &Entry, term: &Restriction) -> Result<Vec<Place>, OutOfMemory>
+    ensures same { IfOk result (λ places. HaveTheSame (numbers places.items)
+        (spec.term_places entry.now.words term.now)) }
+    ensures rise { IfOk result (λ places. Rise places.items) }
 {
     match term {
         Restriction::Content {
             property,
             word,
             prefix,
-        } => places_of(alloc, words, *property, word, *prefix),
+        } => places_of(alloc, entry, *property, word, *prefix),
         Restriction::Phrase { property, slots } => {
-            phrase_places(alloc, words, *property, slots.items())
+            phrase_places(alloc, entry, *property, slots.items())
         }
         Restriction::Proximity { .. } => Ok(Vec::new(alloc)),
         Restriction::Property { .. } => Ok(Vec::new(alloc)),

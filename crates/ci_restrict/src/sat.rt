@@ -1,12 +1,13 @@
 ghost use Rattle.std.specs.Prelude.{◌≡◌, IfOk};
-ghost use Rattle.ci_query.specs.Sat as spec;
+ghost use Rattle.std.specs.List.{list_all, list_any};
+ghost use Rattle.ci_dialect.specs.Sat as spec;
 
-use crate::near::{are_near, has_some};
+use crate::near::are_near;
 use crate::value::{has_match, has_related};
 use crate::word::{has_word, phrase_places};
 use ci_base::{OutOfMemory, PathText};
+use ci_dialect::Restriction;
 use ci_keys::Entry;
-use ci_query::{Operands, Restriction};
 use std::alloc::Global;
 
 /// Whether a document with this path and this entry satisfies the restriction.
@@ -26,10 +27,10 @@ pub fn satisfies(
             prefix,
         } => Ok(has_word(entry.words(), *property, word, *prefix)),
         Restriction::Phrase { property, slots } => {
-            let places = phrase_places(alloc, entry.words(), *property, slots.items())?;
-            Ok(has_some(places.as_slice()))
+            let places = phrase_places(alloc, entry, *property, slots.items())?;
+            Ok(!places.is_empty())
         }
-        Restriction::Proximity { terms, .. } => are_near(alloc, entry.words(), terms),
+        Restriction::Proximity { terms, .. } => are_near(alloc, entry, terms.as_slice()),
         Restriction::Property {
             property,
             relation,
@@ -39,8 +40,8 @@ pub fn satisfies(
             Ok(has_match(entry.values(), *property, pattern))
         }
         Restriction::Scope(prefix) => Ok(prefix.holds(path)),
-        Restriction::And(all) => satisfies_all(alloc, all, path, entry),
-        Restriction::Or(any) => satisfies_any(alloc, any, path, entry),
+        Restriction::And(all) => satisfies_all(alloc, all.as_slice(), path, entry),
+        Restriction::Or(any) => satisfies_any(alloc, any.as_slice(), path, entry),
         Restriction::Not(one) => {
             let holds = satisfies(alloc, one.get(), path, entry)?;
             Ok(!holds)
@@ -51,41 +52,33 @@ pub fn satisfies(
 #[cycle(sat)]
 fn satisfies_all(
     alloc: Global,
-    all: &Operands,
+    all: &[Restriction],
     path: &PathText,
     entry: &Entry,
 ) -> Result<bool, OutOfMemory>
-    ensures { IfOk result (λ yes. yes ≡ spec.sat_all all.now path.now entry.now) }
+    ensures { IfOk result (λ yes. yes ≡ list_all (λ r. spec.sat r path.now entry.now) all.now) }
 {
-    match all {
-        Operands::One(only) => satisfies(alloc, only.get(), path, entry),
-        Operands::More(first, rest) => {
-            let holds = satisfies(alloc, first.get(), path, entry)?;
-            if !holds {
-                return Ok(false);
-            }
-            satisfies_all(alloc, rest.get(), path, entry)
+    for one in all {
+        if !satisfies(alloc, one, path, entry)? {
+            return Ok(false);
         }
     }
+    Ok(true)
 }
 
 #[cycle(sat)]
 fn satisfies_any(
     alloc: Global,
-    any: &Operands,
+    any: &[Restriction],
     path: &PathText,
     entry: &Entry,
 ) -> Result<bool, OutOfMemory>
-    ensures { IfOk result (λ yes. yes ≡ spec.sat_any any.now path.now entry.now) }
+    ensures { IfOk result (λ yes. yes ≡ list_any (λ r. spec.sat r path.now entry.now) any.now) }
 {
-    match any {
-        Operands::One(only) => satisfies(alloc, only.get(), path, entry),
-        Operands::More(first, rest) => {
-            let holds = satisfies(alloc, first.get(), path, entry)?;
-            if holds {
-                return Ok(true);
-            }
-            satisfies_any(alloc, rest.get(), path, entry)
+    for one in any {
+        if satisfies(alloc, one, path, entry)? {
+            return Ok(true);
         }
     }
+    Ok(false)
 }

@@ -1,5 +1,5 @@
 ghost use Rattle.std.specs.Prelude.{◌≡◌};
-ghost use Rattle.ci_query.specs.Held as spec;
+ghost use Rattle.ci_dialect.specs.Held as spec;
 
 use ci_base::{PropNo, Text, Value};
 use ci_props::{Relation, compare, matches_pattern};

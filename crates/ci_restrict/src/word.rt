@@ -1,10 +1,11 @@
-ghost use Rattle.std.specs.Prelude.{◌≡◌, ◌==◌, ◌&&◌, false, ◌≤◌, ◌+◌, ◌^◌, ◌++◌, IfOk, OnOk, filter, map};
-ghost use Rattle.std.specs.List.{list_any};
-ghost use Rattle.ci_query.specs.Places as spec;
+ghost use Rattle.std.specs.Prelude.{◌≡◌, ◌+◌, ◌≤◌, ◌^◌, false, true, IfOk, filter};
+ghost use Rattle.ci_dialect.specs.Places as spec;
+ghost use Rattle.ci_restrict.specs.Walk.{HaveTheSame, Rise, numbers};
 
+use crate::walk::those_with;
 use ci_base::{OutOfMemory, Place, PropNo, Text};
-use ci_keys::{Key, Places};
-use ci_query::Slot;
+use ci_dialect::Slot;
+use ci_keys::{Entry, Key, Places};
 use std::alloc::Global;
 
 /// Whether one of the words is this one of the property, or for a prefix begins with it.
@@ -19,111 +20,142 @@ pub fn has_word(words: &[(Key, Places)], property: PropNo, word: &Text, prefix: 
 /// The places of the word, or of all words that begin with it.
 pub fn places_of(
     alloc: Global,
-    words: &[(Key, Places)],
+    entry: &Entry,
     property: PropNo,
     word: &Text,
     prefix: bool,
-) -> Result<Vec<u32>, OutOfMemory>
-    ensures { IfOk result (λ places.
-        places.items ≡ spec.places_of words.now property word.now prefix) }
+) -> Result<Vec<Place>, OutOfMemory>
+    ensures same { IfOk result (λ places. HaveTheSame (numbers places.items)
+        (spec.places_of entry.now.words property word.now prefix)) }
+    ensures rise { IfOk result (λ places. Rise places.items) }
 {
-    let mut places = Vec::new(alloc);
-    for found in words {
-        if is_key(&found.0, property, word, prefix) {
-            add_places(found.1.items(), &mut places)?;
-        }
+    if prefix {
+        return prefix_places(alloc, entry, property, word);
     }
-    Ok(places)
+    let key = key_of(alloc, property, word)?;
+    Ok(Vec::from_slice(alloc, beside(entry, &key))?)
 }
 
 /// The places at which a phrase begins.
 pub fn phrase_places(
     alloc: Global,
-    words: &[(Key, Places)],
+    entry: &Entry,
     property: PropNo,
     slots: &[Slot],
-) -> Result<Vec<u32>, OutOfMemory>
-    ensures { IfOk result (λ places.
-        places.items ≡ spec.phrase_places words.now property slots.now) }
+) -> Result<Vec<Place>, OutOfMemory>
+    ensures ok { IfOk result (λ places. numbers places.items
+        ≡ spec.phrase_places entry.now.words property slots.now) }
+    ensures rise { IfOk result (λ places. Rise places.items) }
 {
     match slots {
         [] => Ok(Vec::new(alloc)),
         [Slot::Open, ..] => Ok(Vec::new(alloc)),
         [Slot::Word(word), more @ ..] => {
-            let first = places_of(alloc, words, property, word, false)?;
-            followed(alloc, words, property, first.as_slice(), more)
+            let key = key_of(alloc, property, word)?;
+            followed(alloc, entry, property, beside(entry, &key), more)
         }
     }
 }
 
-// Those of the places behind which the words of the slots stand.
+// Those of the places behind which the words of the slots stand: fewer with each word.
 fn followed(
     alloc: Global,
-    words: &[(Key, Places)],
+    entry: &Entry,
     property: PropNo,
-    first: &[u32],
+    first: &[Place],
     more: &[Slot],
-) -> Result<Vec<u32>, OutOfMemory>
-    ensures { IfOk result (λ places. places.items
-        ≡ filter (λ p. spec.follow words.now property (p + 1) more.now) first.now) }
+) -> Result<Vec<Place>, OutOfMemory>
+    requires { Rise first.now }
+    ensures ok { IfOk result (λ places. numbers places.items
+        ≡ filter (λ p. spec.follow entry.now.words property (p + 1) more.now)
+        (numbers first.now)) }
+    ensures rise { IfOk result (λ places. Rise places.items) }
 {
-    let mut places = Vec::new(alloc);
-    for at in first {
-        if follow(words, property, u64::from(*at) + 1, more) {
-            places.push(*at)?;
-        }
+    let mut places = Vec::from_slice(alloc, first)?;
+    for (i, slot) in more.iter().enumerate() {
+        places = with_slot(alloc, entry, property, places, i as u64 + 1, slot)?;
     }
     Ok(places)
 }
 
-// Whether the words of the slots stand one behind another from the place on.
-fn follow(words: &[(Key, Places)], property: PropNo, at: u64, slots: &[Slot]) -> bool
-    requires { at ≤ 2 ^ 32 }
-    ensures { result ≡ spec.follow words.now property at slots.now }
-{
-    for (i, slot) in slots.iter().enumerate() {
-        if !has_slot(words, property, at + i as u64, slot) {
-            return false;
-        }
-    }
-    true
-}
-
-fn has_slot(words: &[(Key, Places)], property: PropNo, at: u64, slot: &Slot) -> bool
-    ensures { result ≡ spec.has_slot words.now property at slot.now }
+// Those of the places from which, so much further on, the slot's word stands.
+fn with_slot(
+    alloc: Global,
+    entry: &Entry,
+    property: PropNo,
+    places: Vec<Place>,
+    further: u64,
+    slot: &Slot,
+) -> Result<Vec<Place>, OutOfMemory>
+    requires rise { Rise places.items }
+    requires further { further ≤ 2 ^ 63 }
+    ensures ok { IfOk result (λ kept. numbers kept.items
+        ≡ filter (λ p. spec.has_slot entry.now.words property (p + further) slot.now)
+        (numbers places.items)) }
+    ensures rise { IfOk result (λ kept. Rise kept.items) }
 {
     match slot {
-        Slot::Open => true,
-        Slot::Word(word) => has_word_at(words, property, word, at),
+        Slot::Open => Ok(places),
+        Slot::Word(word) => {
+            let key = key_of(alloc, property, word)?;
+            those_with(alloc, places.as_slice(), beside(entry, &key), further, 0)
+        }
     }
 }
 
-fn has_word_at(words: &[(Key, Places)], property: PropNo, word: &Text, at: u64) -> bool
-    ensures { result ≡ spec.stands_at words.now property word.now at }
+fn key_of(alloc: Global, property: PropNo, word: &Text) -> Result<Key, OutOfMemory>
+    ensures property { IfOk result (λ key. key.property ≡ property) }
+    ensures word { IfOk result (λ key. key.word ≡ word.now) }
 {
-    words.iter().any(|found| is_key_at(&found.0, found.1.items(), property, word, at))
+    Ok(Key {
+        property,
+        word: word.copy(alloc)?,
+    })
 }
 
-fn is_key_at(key: &Key, places: &[Place], property: PropNo, word: &Text, at: u64) -> bool
-    ensures { result ≡ (spec.is_key property word.now false key.now
-        && list_any (λ p. p.0 == at) places.now) }
+// The places beside a key, by a look-up.
+fn beside<'a>(entry: &'a Entry, key: &Key) -> &'a [Place]
+    ensures places { numbers result.now
+        ≡ spec.places_of entry.entry.now.words key.now.property key.now.word false }
+    ensures rise { Rise result.now }
 {
-    is_key(key, property, word, false) && stands_at(places, at)
+    // Says that keys and places ascend.
+    let _words = entry.words();
+    entry.places(key)
 }
 
-fn stands_at(places: &[Place], at: u64) -> bool
-    ensures { result ≡ list_any (λ p. p.0 == at) places.now }
+// The places of all words that begin with this one, word by word, and then in order.
+fn prefix_places(
+    alloc: Global,
+    entry: &Entry,
+    property: PropNo,
+    word: &Text,
+) -> Result<Vec<Place>, OutOfMemory>
+    ensures same { IfOk result (λ places. HaveTheSame (numbers places.items)
+        (spec.places_of entry.now.words property word.now true)) }
+    ensures rise { IfOk result (λ places. Rise places.items) }
 {
-    places.iter().any(|place| u64::from(place.0) == at)
+    let mut places = listed(alloc, entry.words(), property, word)?;
+    places.sort()?;
+    Ok(places)
 }
 
-fn add_places(places: &[Place], list: &mut Vec<u32>) -> Result<(), OutOfMemory>
-    ensures { OnOk result (list.new.items ≡ list.old.items ++ map (λ p. p.0) places.now) }
+fn listed(
+    alloc: Global,
+    words: &[(Key, Places)],
+    property: PropNo,
+    word: &Text,
+) -> Result<Vec<Place>, OutOfMemory>
+    ensures { IfOk result (λ places. numbers places.items
+        ≡ spec.places_of words.now property word.now true) }
 {
-    for place in places {
-        list.push(place.0)?;
+    let mut places = Vec::new(alloc);
+    for found in words {
+        if is_key(&found.0, property, word, true) {
+            places.extend_from_slice(found.1.items())?;
+        }
     }
-    Ok(())
+    Ok(places)
 }
 
 fn is_key(key: &Key, property: PropNo, word: &Text, prefix: bool) -> bool

@@ -1,7 +1,7 @@
 use Rattle.std.proofs.Common.{rules, not, ◌∙◌}
 use Rattle.std.proofs.lemmas.Iterator.{YieldsList-from_slice}
 use Rattle.std.proofs.lemmas.Iterator.Search.{position_from_yields_List}
-use Rattle.ci_query.specs.Words.{is_item}
+use Rattle.ci_dialect.specs.Words.{is_item}
 use Rattle.ci_query.proofs.ItemLemmas.{length-items_of, take-items_of}
 use Rattle.ci_query.proofs.items.len_of_items.Goals as goal
 

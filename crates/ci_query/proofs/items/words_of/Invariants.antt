@@ -1,5 +1,6 @@
 use Rattle.std.proofs.Common.{◌≡◌, ◌+◌, ◌≤◌, drop, length, take}
-use Rattle.ci_query.specs.Words.{too_long, words_of}
+use Rattle.ci_dialect.specs.Words.{words_of}
+use Rattle.ci_dialect.specs.Step.{too_long}
 use Rattle.ci_query.proofs.items.words_of.Given as goal
 
 abbrev pub invariant-loop-item : goal.invariant-loop-item

@@ -1,6 +1,6 @@
 use Rattle.std.proofs.Common.{◌<◌, sym, ap, ◌∙◌, arith}
 use Rattle.ci_query.proofs.ParseLemmas.{opened-none, opened-some}
-use Rattle.ci_query.specs.declared.fault.QueryFault.TheVariants.{TooDeep}
+use Rattle.ci_dialect.specs.declared.fault.QueryFault.TheVariants.{TooDeep}
 use Rattle.std.proofs.Common.{Err}
 use Rattle.ci_query.proofs.parsing.+opened.Goals as goal
 

@@ -1,5 +1,5 @@
 use Rattle.std.proofs.Common.{◌≡◌, vec_len}
-use Rattle.ci_query.specs.Words.{closed}
+use Rattle.ci_dialect.specs.Words.{closed}
 use Rattle.ci_query.proofs.phrase.drop_open_end.Given as goal
 
 abbrev pub invariant-loop-slots : goal.invariant-loop-slots

@@ -1,5 +1,6 @@
 use Rattle.std.proofs.Common.{ap, ◌∙◌, sym, arith}
-use Rattle.ci_query.specs.Words.{slot_of, with_slot}
+use Rattle.ci_dialect.specs.Words.{slot_of}
+use Rattle.ci_query.specs.Words.{with_slot}
 use Rattle.ci_query.proofs.PhraseLemmas.{begun-next}
 use Rattle.ci_query.proofs.phrase.slots_of.Goals as goal
 

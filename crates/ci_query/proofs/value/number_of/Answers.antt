@@ -1,5 +1,5 @@
 use Rattle.std.proofs.Common.{ap, sym, ◌∙◌}
-use Rattle.ci_query.specs.Values.{is_digits}
+use Rattle.ci_dialect.specs.Values.{is_digits}
 use Rattle.ci_query.proofs.NumberLemmas.{number-parsed}
 use Rattle.ci_query.proofs.value.number_of.Goals as goal
 

@@ -1,6 +1,6 @@
 use Rattle.std.proofs.Common.{ap, sym, ◌∙◌}
 use Rattle.ci_paths.specs.Prefix.{prefix_of}
-use Rattle.ci_query.specs.Values.{is_prefix}
+use Rattle.ci_dialect.specs.Values.{is_prefix}
 use Rattle.ci_query.proofs.PrefixLemmas.{is_prefix-from, scoped-prefix}
 use Rattle.ci_query.proofs.value.scoped.Goals as goal
 

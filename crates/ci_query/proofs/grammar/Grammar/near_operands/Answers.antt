@@ -1,21 +1,21 @@
 use Rattle.std.proofs.Common.{rules, ◌≡◌, ◌≢◌, ◌++◌, ◌∷◌, [], ◌-◌, ◌+◌, Err, Ok, sym, ap, ◌∙◌, arith}
 use Rattle.std.proofs.lemmas.Grind.{common_steps}
-use Rattle.ci_query.specs.declared.fault.QueryFault.TheVariants.{OutOfMemory}
-use Rattle.ci_query.specs.declared.sign.Sign.TheVariants as sign
-use Rattle.ci_query.specs.Grammar.{near_operand, opened}
-use Rattle.ci_query.specs.Reading.{repeated, turns}
+use Rattle.ci_dialect.specs.declared.fault.QueryFault.TheVariants.{OutOfMemory}
+use Rattle.ci_dialect.specs.declared.sign.Sign.TheVariants as sign
+use Rattle.ci_dialect.specs.Grammar.{near_operand, opened}
+use Rattle.ci_query.specs.Reading.{read, repeated, turns}
 use Rattle.ci_query.proofs.TurnLemmas.{prepended, turns-fault, turns-more, turns-none}
 use Rattle.ci_query.proofs.grammar.Grammar.near_operands.Goals as goal
 
 pub returns-then-not-eat : goal.returns-then-not-eat
 returns-then-not-eat g c =
-    let rule = near_operand c.args.self.now.noise.now (opened c.args.self.now.noise.now c.args.self.now.depth) c.args.property in
+    let rule = read (near_operand c.args.self.now.noise.now (opened c.args.self.now.noise.now c.args.self.now.depth) c.args.property) in
     let none = c.eat.ensures ∙ ap (λ b. Ok (b, c.eat.new.self)) c.if-not-eat.true in
     turns-none sign.Near rule _ c.loop-turn.others.items c.left-turn-end.result c.loop-turn._turn c.loop-turn.reader _ c.loop-turn-test.true none c.loop-turn.invariant
 
 pub returns-in_err-near_operand : goal.returns-in_err-near_operand
 returns-in_err-near_operand g c =
-    let rule = near_operand c.args.self.now.noise.now (opened c.args.self.now.noise.now c.args.self.now.depth) c.args.property in
+    let rule = read (near_operand c.args.self.now.noise.now (opened c.args.self.now.noise.now c.args.self.now.depth) c.args.property) in
     let some = c.eat.ensures ∙ ap (λ b. Ok (b, c.eat.new.self)) c.if-not-eat.false in
     let fault = c.in_err-near_operand.field-0.0 in
     let refused : fault ≢ OutOfMemory → repeated sign.Near rule c.args.reader.now ≡ Err fault =
@@ -24,7 +24,7 @@ returns-in_err-near_operand g c =
 
 pub loop-turn-preserved : goal.loop-turn-preserved
 loop-turn-preserved g c =
-    let rule = near_operand c.args.self.now.noise.now (opened c.args.self.now.noise.now c.args.self.now.depth) c.args.property in
+    let rule = read (near_operand c.args.self.now.noise.now (opened c.args.self.now.noise.now c.args.self.now.depth) c.args.property) in
     let some = c.eat.ensures ∙ ap (λ b. Ok (b, c.eat.new.self)) c.if-not-eat.false in
     let found = c.in_ok-near_operand.field-0 in
     let pushed : c.push.new.self.items ≡ c.loop-turn.others.items ++ found ∷ [] = search rules in

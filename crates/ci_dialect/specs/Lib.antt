@@ -1,0 +1,15 @@
+pub mod Fault
+pub mod FirstFault
+pub mod Grammar
+pub mod Held
+pub mod Joined
+pub mod Left
+pub mod Near
+pub mod Places
+pub mod Rule
+pub mod Sat
+pub mod Step
+pub mod Tree
+pub mod Values
+pub mod WellFormed
+pub mod Words
