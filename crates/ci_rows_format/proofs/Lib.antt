@@ -1,0 +1,4 @@
+pub mod ReadLemmas
+pub mod RowLemmas
+pub mod WriteLemmas
+pub mod PublicLemmas

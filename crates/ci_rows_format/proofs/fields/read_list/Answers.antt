@@ -1,0 +1,18 @@
+use Rattle.std.proofs.lemmas.Result.{err_from_is_err_and}
+use Rattle.ci_front.specs.Front.{many_at}
+use Rattle.ci_front.proofs.CodeLemmas.{many_goes_on, many_done}
+use Rattle.ci_rows_format.specs.Reading.{value_at}
+use Rattle.ci_rows_format.proofs.ReadLemmas.{list_ends}
+use Rattle.ci_rows_format.proofs.fields.read_list.Goals as goal
+
+pub returns-in_err-one : goal.returns-in_err-one
+returns-in_err-one c =
+    let p = err_from_is_err_and c.from_residual.result c.from_residual.ensures.1 in
+    rw (p.1, p.2) (list_ends value_at c.in_err-one.field-0.0 c.loop.values.items c.args.count c.loop.counter c.loop.rest.now (many_at value_at c.args.count c.args.bytes.now) c.loop-test.true c.in_err-one.ensures c.loop.invariant)
+
+pub loop-preserved : goal.loop-preserved
+loop-preserved c =
+    rw c.in_ok-push.ensures.items (many_goes_on value_at c.loop.values.items c.args.count c.loop.counter c.loop.rest.now c.in_ok-one.one c.in_ok-one.after.now (many_at value_at c.args.count c.args.bytes.now) c.loop-test.true c.in_ok-one.ensures c.loop.invariant)
+
+pub returns : goal.returns
+returns c = many_done value_at c.loop.values.items c.args.count c.loop.counter c.loop.rest.now (many_at value_at c.args.count c.args.bytes.now) c.loop-test.false c.loop.invariant

@@ -1,0 +1,4 @@
+pub mod OrderLemmas
+pub mod FilingLemmas
+pub mod PostingsLemmas
+pub mod BatchLemmas
