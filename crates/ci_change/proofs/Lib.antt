@@ -1,3 +1,4 @@
+pub mod CopyLemmas
 pub mod FilterLemmas
 pub mod FindLemmas
 pub mod GreatestLemmas

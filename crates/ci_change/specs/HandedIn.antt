@@ -15,7 +15,12 @@ pub record History : Type 0 where
   pub notices : List Notice
   pub served : List (List ℕ × Seq)
 
--- the same, with the batches that are out, and how often a document is to be tried
+-- such a history, and in how many steps it came
+pub record Remembered : Type 0 where
+  pub history : History
+  pub steps : ℕ
+
+-- notices and served numbers, with the batches that are out, and how often a document is to be tried
 pub record HandedIn : Type 0 where
   pub notices : List Notice
   pub served : List (List ℕ × Seq)

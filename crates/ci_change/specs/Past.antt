@@ -1,14 +1,23 @@
--- What a `Past` tells.
-use Rattle.std.specs.Prelude.{[], ◌∷◌, ◌++◌}
-use Rattle.ci_change.specs.HandedIn.{History, notice_of}
-use Rattle.ci_change.specs.declared.past.Step.{Step}
-use Rattle.ci_change.specs.declared.past.Step.TheVariants.{Start, Noted, Served}
+-- What `Steps` remembers.
+use Rattle.std.specs.Prelude.{[], ◌∷◌, ◌++◌, ◌+◌}
+use Rattle.ci_change.specs.HandedIn.{Remembered, notice_of}
+use Rattle.ci_change.specs.declared.steps.Step.{Step}
+use Rattle.ci_change.specs.declared.steps.Step.TheVariants.{Start, Noted, Served, Same}
 
 -- what was handed in before the last step, and in it
-abbrev pub handed_in : Step → History
-handed_in Start = record { notices = []; served = [] }
+abbrev pub handed_in : Step → Remembered
+handed_in Start = record { history = record { notices = []; served = [] }; steps = 0 }
 handed_in (Noted before path seq what) =
-    let past = before.value in
-    record past { notices = past.notices ++ notice_of path.value seq what ∷ [] }
+    let past = before.value.history in
+    record {
+      history = record past { notices = past.notices ++ notice_of path.value seq what ∷ [] };
+      steps = before.value.steps + 1;
+    }
 handed_in (Served before path seq) =
-    let past = before.value in record past { served = past.served ++ (path.value, seq) ∷ [] }
+    let past = before.value.history in
+    record {
+      history = record past { served = past.served ++ (path.value, seq) ∷ [] };
+      steps = before.value.steps + 1;
+    }
+handed_in (Same before) =
+    record { history = before.value.history; steps = before.value.steps + 1 }

@@ -53,6 +53,19 @@ impl ChangeList {
         }
     }
 
+    /// Another list, which contracts see as equal to this one.
+    pub fn copy(&self, alloc: Global) -> Result<ChangeList, OutOfMemory>
+        ensures { IfOk result (λ c. c ≡ self.now) }
+    {
+        Ok(ChangeList {
+            alloc,
+            retries: self.retries,
+            register: self.register.copy(alloc)?,
+            out: copy_batches(alloc, self.out.as_slice())?,
+            past: self.past.copy(),
+        })
+    }
+
     /// The path's latest notice is this one, which comes last.
     pub fn note(&mut self, path: &PathText, seq: Seq, what: What) -> Result<(), OutOfMemory>
         requires { All (λ n. n.seq.0 < seq.0) self.old.notices }
@@ -125,4 +138,14 @@ impl ChangeList {
         list.sort_unstable_by(|a, b| a.path.cmp(&b.path));
         Ok(list)
     }
+}
+
+fn copy_batches(alloc: Global, batches: &[Batch]) -> Result<Vec<Batch>, OutOfMemory>
+    ensures { IfOk result (λ copied. copied.items ≡ batches.now) }
+{
+    let mut copied = Vec::new(alloc);
+    for batch in batches {
+        copied.push(batch.copy(alloc)?)?;
+    }
+    Ok(copied)
 }

@@ -9,6 +9,7 @@ mod order;
 mod past;
 mod register;
 mod rows;
+mod steps;
 
 pub use batch::Batch;
 pub use change_list::ChangeList;

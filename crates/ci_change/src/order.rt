@@ -1,4 +1,4 @@
-ghost use Rattle.std.specs.Prelude.{◌≡◌, ◌<◌, ◌++◌, [], ◌∷◌, All, OnOk, OnErr};
+ghost use Rattle.std.specs.Prelude.{◌≡◌, ◌<◌, ◌++◌, [], ◌∷◌, All, IfOk, OnOk, OnErr};
 ghost use Rattle.std.specs.BTreeMap.{IsOrdered};
 ghost use Rattle.std.specs.Ordering.{nat_cmp};
 ghost use Rattle.ci_change.specs.Order.{without_entry, renewed, retired};
@@ -36,6 +36,13 @@ fn take_out(order: &mut Order, number: u64)
     ensures entries { order.new.entries ≡ without_entry number order.old.entries }
 {
     order.remove(&number);
+}
+
+/// An order that equals this one.
+pub fn copy_order(order: &Order) -> Result<Order, OutOfMemory>
+    ensures { IfOk result (λ copied. copied.entries ≡ order.now.entries) }
+{
+    Ok(order.clone()?)
 }
 
 /// Puts a path's newest notice in the place of the one it had. It is pending if it isn't served.

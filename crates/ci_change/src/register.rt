@@ -1,9 +1,9 @@
 ghost use Rattle.std.specs.Prelude.{◌≡◌, ◌<◌, [], All, filter, take, option_to_list, IsTrue, IsOk, IfOk, OnOk, OnErr};
 
 use crate::batch::is_free;
-use crate::order::{Entry, Order, renew, retire};
+use crate::order::{Entry, Order, copy_order, renew, retire};
 use crate::rows::{
-    Numbers, Rows, latest_of, numbers_of, path_at, place_of, put_numbers, served_of,
+    Numbers, Rows, copy_rows, latest_of, numbers_of, path_at, place_of, put_numbers, served_of,
 };
 use crate::{Batch, Docs, Notice, What};
 use ci_base::{OutOfMemory, PathText, Seq};
@@ -43,6 +43,16 @@ impl Register {
             rows: IndexMap::new(alloc),
             order: BTreeMap::new(alloc),
         }
+    }
+
+    /// Another register that equals this one.
+    pub fn copy(&self, alloc: Global) -> Result<Register, OutOfMemory>
+        ensures { IfOk result (λ r. r ≡ self.now) }
+    {
+        Ok(Register {
+            rows: copy_rows(&self.rows, alloc)?,
+            order: copy_order(&self.order)?,
+        })
     }
 
     /// The path's latest notice is this one. It is pending if it is above the path's served number.

@@ -37,6 +37,17 @@ pub fn place_of(rows: &mut Rows, alloc: Global, path: &PathText) -> Result<usize
     }
 }
 
+/// Rows that equal these.
+pub fn copy_rows(rows: &Rows, alloc: Global) -> Result<Rows, OutOfMemory>
+    ensures { IfOk result (λ copied. copied.entries ≡ rows.now.entries) }
+{
+    let mut copied = IndexMap::with_capacity(alloc, rows.len())?;
+    for (path, numbers) in rows {
+        copied.insert(path.copy(alloc)?, *numbers)?;
+    }
+    Ok(copied)
+}
+
 /// The path at a place.
 pub fn path_at(rows: &Rows, place: usize) -> &PathText
     requires { place < length rows.now.entries }

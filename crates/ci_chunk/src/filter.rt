@@ -1,5 +1,6 @@
 ghost use Rattle.std.specs.Prelude.{◌≤◌, ◌≡◌, ◌⊎◌, IfOk, length};
 ghost use Rattle.ci_chunk.specs.Talk.{Heard, Talk, init_answer, chunk_answer, text_answer, value_answer, value_bytes};
+ghost use Rattle.ci_chunk.specs.Statuses.{last_text, last_values, s_ok};
 
 use crate::{Answer, Call, FilterStop, StatChunk, Status};
 use ci_base::{OutOfMemory, PathText, Text, Value};
@@ -24,13 +25,13 @@ pub trait Filter: Drop {
         ensures heard { Heard (talks self.old)
             (Call.GetText max) (text_answer result) (talks self.new) }
         ensures status { IfOk result (λ given.
-            (given.0 ≡ Status.S_OK) ⊎ (given.0 ≡ Status.FILTER_S_LAST_TEXT)) }
+            (given.0 ≡ s_ok) ⊎ (given.0 ≡ last_text)) }
         ensures short { IfOk result (λ given. length given.1 ≤ 65536) };
 
     fn get_value(&mut self, alloc: Global) -> Result<(Status, Value), FilterStop>
         ensures heard { Heard (talks self.old)
             Call.GetValue (value_answer result) (talks self.new) }
         ensures status { IfOk result (λ given.
-            (given.0 ≡ Status.S_OK) ⊎ (given.0 ≡ Status.FILTER_S_LAST_VALUES)) }
+            (given.0 ≡ s_ok) ⊎ (given.0 ≡ last_values)) }
         ensures short { IfOk result (λ given. value_bytes given.1 ≤ 65536) };
 }

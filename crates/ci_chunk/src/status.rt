@@ -1,4 +1,5 @@
-ghost use Rattle.std.specs.Prelude.{◌≤◌, ◌^◌, ◌↔◌, IsTrue};
+ghost use Rattle.std.specs.Prelude.{◌≡◌, ◌≤◌, ◌^◌, ◌↔◌, IsTrue};
+ghost use Rattle.ci_chunk.specs.Statuses.{named};
 
 /// What a filter says of a call. A status whose top bit is set is a failing one.
 #[derive(Clone, Copy, Debug, PartialEq, Eq, PartialOrd, Ord, Hash)]
@@ -30,6 +31,27 @@ impl Status {
     pub const FILTER_E_PASSWORD: Status = Status(0x8004_170B);
 
     pub const FILTER_E_UNKNOWNFORMAT: Status = Status(0x8004_170C);
+
+    /// All statuses that have names, in the order in which they stand here.
+    pub fn named() -> [Status; 13]
+        ensures { result ≡ named }
+    {
+        [
+            Status::S_OK,
+            Status::FILTER_E_END_OF_CHUNKS,
+            Status::FILTER_E_NO_MORE_TEXT,
+            Status::FILTER_E_NO_MORE_VALUES,
+            Status::FILTER_E_ACCESS,
+            Status::FILTER_E_NO_TEXT,
+            Status::FILTER_E_NO_VALUES,
+            Status::FILTER_E_EMBEDDING_UNAVAILABLE,
+            Status::FILTER_E_LINK_UNAVAILABLE,
+            Status::FILTER_S_LAST_TEXT,
+            Status::FILTER_S_LAST_VALUES,
+            Status::FILTER_E_PASSWORD,
+            Status::FILTER_E_UNKNOWNFORMAT,
+        ]
+    }
 
     pub fn is_failing(self) -> bool
         ensures { IsTrue result ↔ (2 ^ 31 ≤ self.0) }

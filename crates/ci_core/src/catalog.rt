@@ -1,11 +1,13 @@
-ghost use Rattle.std.specs.Prelude.{◌≡◌, ◌-◌, [], None, length, map, IfOk, IfErr};
+ghost use Rattle.std.specs.Prelude.{◌≡◌, ◌≤◌, ◌-◌, [], None, length, map, IfOk, IfErr, IfSome};
 ghost use Rattle.std.specs.FinMap.{entries};
 ghost use Rattle.std.specs.Option.{option_copied, option_map};
 ghost use Rattle.ci_change.specs.Pending.{ListsByPath};
+ghost use Rattle.ci_journal.specs.Bytes.{journal_bytes};
 ghost use Rattle.ci_journal.specs.Completions.{pending};
 ghost use Rattle.ci_journal.specs.Folds.{asked, is_replied, replied};
 ghost use Rattle.ci_journal.specs.Served.{live_map};
 ghost use Rattle.ci_journal.specs.Step.{Run};
+ghost use Rattle.ci_core.specs.Catalog.{IsCaused, NumbersAfter};
 ghost use Rattle.ci_core.specs.Fixed.{HasFixed};
 ghost use Rattle.ci_core.specs.Serving.{AllIndexable};
 
@@ -100,18 +102,23 @@ impl<K: Sink + Drop> Catalog<K> {
         }
     }
 
-    /// The first refusal: its cause, its author, its place, and what it would have told.
+    /// The first refusal: its cause, its author, its place, and what it would have told. The cause
+    /// holds of the catalogue as it is now.
     pub fn refusal(&self) -> Option<&Refusal>
-        ensures { option_copied result ≡ self.now.refusal }
+        ensures first { option_copied result ≡ self.now.refusal }
+        ensures cause { IfSome result (λ r. IsCaused self.now r.now) }
     {
         self.refusal.as_ref()
     }
 
-    /// The journal, which is a run of steps whose transcripts can be indexed.
+    /// The journal, which is a run of steps whose transcripts can be indexed. It is within its bound,
+    /// and the numbered paths are those that it notes, unless memory was wanted.
     pub fn journal(&self) -> &Journal
         ensures events { result.now.list ≡ self.now.sheet.events }
         ensures run { Run self.now.terms result.now.list }
         ensures indexable { AllIndexable result.now.list }
+        ensures within { journal_bytes result.now.list ≤ self.now.sheet.limit }
+        ensures numbered { NumbersAfter self.now self.now.refusal }
     {
         self.holdings.journal()
     }
@@ -129,6 +136,7 @@ impl<K: Sink + Drop> Catalog<K> {
         ensures written { K.written result.sink ≡ self.sheet.written }
         ensures faults { K.faults result.sink ≡ self.sheet.faults }
         ensures run { Run self.terms result.journal.list }
+        ensures within { journal_bytes result.journal.list ≤ self.sheet.limit }
     {
         let (journal, sink) = self.holdings.close();
         Closed { journal, sink }

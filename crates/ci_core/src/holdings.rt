@@ -1,4 +1,5 @@
-ghost use Rattle.std.specs.Prelude.{◌≡◌, []};
+ghost use Rattle.std.specs.Prelude.{◌≡◌, ◌≤◌, []};
+ghost use Rattle.ci_journal.specs.Bytes.{journal_bytes};
 ghost use Rattle.ci_journal.specs.Step.{Run};
 ghost use Rattle.ci_core.specs.Serving.{AllIndexable};
 
@@ -96,6 +97,7 @@ impl<K: Sink + Drop> Holdings<K> {
         ensures events { result.now.list ≡ self.now.sheet.events }
         ensures run { Run self.now.terms result.now.list }
         ensures indexable { AllIndexable result.now.list }
+        ensures within { journal_bytes result.now.list ≤ self.now.sheet.limit }
     {
         self.book.journal()
     }
@@ -113,6 +115,7 @@ impl<K: Sink + Drop> Holdings<K> {
         ensures written { K.written result.1 ≡ self.sheet.written }
         ensures faults { K.faults result.1 ≡ self.sheet.faults }
         ensures run { Run self.terms result.0.list }
+        ensures within { journal_bytes result.0.list ≤ self.sheet.limit }
     {
         self.book.close()
     }

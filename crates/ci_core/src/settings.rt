@@ -1,6 +1,6 @@
 ghost use Rattle.std.specs.Prelude.{◌≡◌, ◌≤◌, IfOk};
 ghost use Rattle.ci_core.specs.declared.settings.TheConstants.{JOURNAL_LEAST, JOURNAL_MOST, DOCUMENTS_LEAST, DOCUMENTS_MOST};
-ghost use Rattle.ci_words.specs.Noise.{SameWords, standard_noise};
+ghost use Rattle.ci_words.specs.Noise.{standard_noise};
 
 use ci_base::OutOfMemory;
 use ci_words::NoiseList;
@@ -38,12 +38,24 @@ impl Settings {
     pub fn standard(alloc: Global) -> Result<Settings, OutOfMemory>
         ensures journal { IfOk result (λ s. s.journal ≡ JOURNAL_MOST) }
         ensures documents { IfOk result (λ s. s.documents ≡ DOCUMENTS_MOST) }
-        ensures noise { IfOk result (λ s. SameWords s.noise standard_noise) }
+        ensures noise { IfOk result (λ s. s.noise ≡ standard_noise) }
     {
         Ok(Settings {
             journal: JOURNAL_MOST,
             documents: DOCUMENTS_MOST,
             noise: NoiseList::standard(alloc)?,
+        })
+    }
+
+    /// Other settings that equal these.
+    pub fn copy(&self, alloc: Global) -> Result<Settings, OutOfMemory>
+        ensures { IfOk result (λ s. s ≡ self.now) }
+    {
+        let noise = self.noise.copy(alloc)?;
+        Ok(Settings {
+            journal: self.journal,
+            documents: self.documents,
+            noise,
         })
     }
 }

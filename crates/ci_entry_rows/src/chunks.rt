@@ -1,7 +1,8 @@
 //! Statuses and plain transcripts.
 
-use ci_base::{PathText, PropNo, Text, Value};
-use ci_chunk::{Break, ChunkState, Piece, Status, Transcript};
+use ci_base::{PathText, Value};
+use ci_chunk::{Piece, StatChunk, Status, Transcript};
+use std::alloc::Global;
 use std::test::Fail;
 
 #[test]
@@ -34,40 +35,52 @@ fn statuses_have_their_numbers(rt: HostRuntime) -> Result<(), Fail> {
     Ok(())
 }
 
+// The pieces of the copy of a plain transcript: each chunk's numbers, and what it holds.
+fn plain(alloc: Global, path: &str, text: &str) -> Result<String, Fail> {
+    if text.len() > 65_536 {
+        return Err("a short text".into());
+    }
+    let path = PathText::read(alloc, path.as_bytes()).ok().ok_or("a path")?;
+    let mut told = String::new(alloc);
+    for piece in Transcript::plain(alloc, &path, text)?.copy(alloc)?.items() {
+        tell(&mut told, piece)?;
+    }
+    Ok(told)
+}
+
+fn tell(told: &mut String, piece: &Piece) -> Result<(), Fail> {
+    match piece {
+        Piece::Words { chunk, text } => {
+            tell_chunk(told, chunk)?;
+            write!(told, "{}|", text.as_str())?;
+        }
+        Piece::Held { chunk, value } => {
+            tell_chunk(told, chunk)?;
+            match value {
+                Some(Value::Int(number)) => write!(told, "{number}|")?,
+                Some(Value::Str(text)) => write!(told, "'{}'|", text.as_str())?,
+                None => told.push('|')?,
+            }
+        }
+    }
+    Ok(())
+}
+
+fn tell_chunk(told: &mut String, chunk: &StatChunk) -> Result<(), Fail> {
+    let place = (chunk.locale, chunk.start, chunk.length);
+    write!(
+        told,
+        "{} {} {:?} ",
+        chunk.id, chunk.source, chunk.break_type
+    )?;
+    write!(told, "{:?} {} {place:?} ", chunk.state, chunk.property.0)?;
+    Ok(())
+}
+
 #[test]
 fn a_plain_text_has_three_pieces(rt: HostRuntime) -> Result<(), Fail> {
-    let alloc = rt.alloc();
-    let path = PathText::read(alloc, b"/d/a.txt").ok().ok_or("a path")?;
-    let read = Transcript::plain(alloc, &path, "hé")?;
-    let copied = read.copy(alloc)?;
-    let [
-        Piece::Held {
-            chunk: name,
-            value: Some(Value::Str(file)),
-        },
-        Piece::Held {
-            chunk: size,
-            value: Some(Value::Int(count)),
-        },
-        Piece::Words {
-            chunk: contents,
-            text,
-        },
-    ] = copied.items()
-    else {
-        return Err("three pieces".into());
-    };
-    assert!(rt; *file == Text::of(alloc, "a.txt")?);
-    assert_eq!(rt; *count, 3);
-    assert!(rt; *text == Text::of(alloc, "hé")?);
-    let chunks = [(name, 2, 1), (size, 3, 2), (contents, 1, 3)];
-    for (chunk, property, id) in chunks {
-        assert_eq!(rt; chunk.property, PropNo(property));
-        assert_eq!(rt; (chunk.id, chunk.source), (id, id));
-        assert_eq!(rt; chunk.break_type, Break::Eop);
-        assert_eq!(rt; (chunk.locale, chunk.start, chunk.length), (0, 0, 0));
-    }
-    assert_eq!(rt; contents.state, ChunkState::Text);
-    assert_eq!(rt; size.state, ChunkState::Value);
+    let wanted =
+        "1 1 Eop Value 2 (0, 0, 0) 'a.txt'|2 2 Eop Value 3 (0, 0, 0) 3|3 3 Eop Text 1 (0, 0, 0) hé|";
+    assert_eq!(rt; plain(rt.alloc(), "/d/a.txt", "hé")?.as_str(), wanted);
     Ok(())
 }

@@ -3,7 +3,8 @@
 ghost use Rattle.std.specs.Prelude.{◌≡◌, ◌+◌, IfOk, OnOk, length};
 ghost use Rattle.ci_entry.specs.Entry.{text_bytes};
 
-use ci_base::{Place, PropNo, Text, Value};
+use crate::table::{Table, unmet};
+use ci_base::{PathText, PropNo, Text, Value};
 use ci_chunk::{Break, ChunkState, Piece, StatChunk, Transcript};
 use ci_entry::{Filtering, entry_of};
 use ci_keys::{Entry, Key};
@@ -54,93 +55,97 @@ fn add_value(alloc: Global, list: &mut Transcript, property: u16, value: Value) 
     Ok(())
 }
 
-// Whether the word stands at just these places.
-fn stands(
-    alloc: Global,
-    entry: &Entry,
-    property: u16,
-    word: &str,
-    at: &[u32],
-) -> Result<bool, Fail> {
-    let key = Key {
-        property: PropNo(property),
-        word: Text::of(alloc, word)?,
-    };
-    let mut list = Vec::new(alloc);
-    for place in entry.places(&key) {
-        list.push(place.0)?;
+// The words of an entry with their places, and its values.
+fn shown(alloc: Global, entry: &Entry) -> Result<String, Fail> {
+    let mut told = String::new(alloc);
+    for (key, places) in entry.words() {
+        write!(told, "{}:{}", key.property.0, key.word.as_str())?;
+        for place in places.items() {
+            write!(told, " {}", place.0)?;
+        }
+        told.push('|')?;
     }
-    Ok(list.as_slice() == at)
+    for (property, value) in entry.values() {
+        show_value(&mut told, property.0, value)?;
+    }
+    Ok(told)
+}
+
+fn show_value(told: &mut String, property: u16, value: &Value) -> Result<(), Fail> {
+    match value {
+        Value::Int(number) => write!(told, "{property}={number}|")?,
+        Value::Str(text) => write!(told, "{property}={}|", text.as_str())?,
+    }
+    Ok(())
+}
+
+// The entry of two texts with this break between them.
+fn broken(alloc: Global, break_type: Break, first: &str, second: &str) -> Result<String, Fail> {
+    if first.len() > 1000 || second.len() > 1000 {
+        return Err("short texts".into());
+    }
+    let mut read = Transcript::new(alloc);
+    add_text(alloc, &mut read, Break::Eop, 1, first)?;
+    add_text(alloc, &mut read, break_type, 1, second)?;
+    shown(
+        alloc,
+        &entry_of(alloc, &read, &NoiseList::standard(alloc)?)?,
+    )
+}
+
+fn break_named(name: &str) -> Break {
+    match name {
+        "Eow" => Break::Eow,
+        "Eos" => Break::Eos,
+        "Eop" => Break::Eop,
+        "Eoc" => Break::Eoc,
+        _ => Break::NoBreak,
+    }
+}
+
+// Rows of a break and the texts before and behind it.
+struct OverBreaks;
+
+impl Table for OverBreaks {
+    fn told(alloc: Global, given: &str) -> Result<String, Fail> {
+        let (name, texts) = given.split_once(' ').ok_or("a break")?;
+        let (first, second) = texts.split_once("; ").ok_or("a text")?;
+        broken(alloc, break_named(name), first, second)
+    }
 }
 
 #[test]
 fn a_break_leaves_its_gap(rt: HostRuntime) -> Result<(), Fail> {
-    let alloc = rt.alloc();
-    let noise = NoiseList::standard(alloc)?;
-    for (break_type, place) in [
-        (Break::Eow, 1),
-        (Break::Eos, 9),
-        (Break::Eop, 129),
-        (Break::Eoc, 1025),
-    ] {
-        let mut read = Transcript::new(alloc);
-        add_text(alloc, &mut read, Break::Eop, 1, "fire")?;
-        add_text(alloc, &mut read, break_type, 1, "fox")?;
-        let entry = entry_of(alloc, &read, &noise)?;
-        assert_eq!(rt; entry.words().len(), 2);
-        assert!(rt; stands(alloc, &entry, 1, "fire", &[0])?);
-        assert!(rt; stands(alloc, &entry, 1, "fox", &[place])?);
-    }
+    // no break goes on with the word, and noise takes its place
+    const ROWS: &str = "\
+Eow fire; fox => 1:fire 0|1:fox 1|
+Eos fire; fox => 1:fire 0|1:fox 9|
+Eop fire; fox => 1:fire 0|1:fox 129|
+Eoc fire; fox => 1:fire 0|1:fox 1025|
+NoBreak fire; fox => 1:firefox 0|
+Eow The fox and the fox of; fox => 1:fox 1 4 6|";
+    assert_eq!(rt; unmet::<OverBreaks>(rt.alloc(), ROWS)?.as_str(), "");
     Ok(())
 }
 
-#[test]
-fn no_break_goes_on_with_the_word(rt: HostRuntime) -> Result<(), Fail> {
-    let alloc = rt.alloc();
-    let noise = NoiseList::standard(alloc)?;
-    let mut read = Transcript::new(alloc);
-    add_text(alloc, &mut read, Break::Eop, 1, "fire")?;
-    add_text(alloc, &mut read, Break::NoBreak, 1, "fox")?;
-    let entry = entry_of(alloc, &read, &noise)?;
-    assert_eq!(rt; entry.words().len(), 1);
-    assert!(rt; stands(alloc, &entry, 1, "firefox", &[0])?);
-    Ok(())
-}
-
-#[test]
-fn a_run_goes_on_behind_another_property(rt: HostRuntime) -> Result<(), Fail> {
-    let alloc = rt.alloc();
-    let noise = NoiseList::standard(alloc)?;
+// The entry of two texts of a property around one of another, and of two more behind them.
+fn parted(alloc: Global) -> Result<String, Fail> {
     let mut read = Transcript::new(alloc);
     add_text(alloc, &mut read, Break::NoBreak, 1, "fi")?;
     add_text(alloc, &mut read, Break::Eos, 5, "Red Book")?;
     add_text(alloc, &mut read, Break::NoBreak, 1, "re")?;
     add_text(alloc, &mut read, Break::NoBreak, 1, "fox runs")?;
     add_text(alloc, &mut read, Break::Eos, 1, "away")?;
-    let entry = entry_of(alloc, &read, &noise)?;
-    for (property, word, place) in [
-        (1, "firefox", 0),
-        (1, "runs", 1),
-        (1, "away", 10),
-        (5, "red", 0),
-        (5, "book", 1),
-    ] {
-        assert!(rt; stands(alloc, &entry, property, word, &[place])?, "{word}");
-    }
-    assert_eq!(rt; entry.words().len(), 5);
-    Ok(())
+    shown(
+        alloc,
+        &entry_of(alloc, &read, &NoiseList::standard(alloc)?)?,
+    )
 }
 
 #[test]
-fn noise_takes_its_place(rt: HostRuntime) -> Result<(), Fail> {
-    let alloc = rt.alloc();
-    let noise = NoiseList::standard(alloc)?;
-    let mut read = Transcript::new(alloc);
-    add_text(alloc, &mut read, Break::Eop, 1, "The fox and the fox of")?;
-    add_text(alloc, &mut read, Break::Eow, 1, "fox")?;
-    let entry = entry_of(alloc, &read, &noise)?;
-    assert_eq!(rt; entry.words().len(), 1);
-    assert!(rt; stands(alloc, &entry, 1, "fox", &[1, 4, 6])?);
+fn a_run_goes_on_behind_another_property(rt: HostRuntime) -> Result<(), Fail> {
+    let wanted = "1:away 10|1:firefox 0|1:runs 1|5:book 1|5:red 0|";
+    assert_eq!(rt; parted(rt.alloc())?.as_str(), wanted);
     Ok(())
 }
 
@@ -159,46 +164,60 @@ fn valued(alloc: Global) -> Result<Transcript, Fail>
     Ok(read)
 }
 
-#[test]
-fn the_first_value_of_the_right_kind_is_kept(rt: HostRuntime) -> Result<(), Fail> {
-    let alloc = rt.alloc();
-    let noise = NoiseList::standard(alloc)?;
-    let entry = entry_of(alloc, &valued(alloc)?, &noise)?;
-    assert_eq!(rt; entry.words().len(), 0);
-    match entry.values() {
-        [size, title] => {
-            assert!(rt; *size == (PropNo(3), Value::Int(12)));
-            assert!(rt; *title == (PropNo(5), Value::Str(Text::of(alloc, "red")?)));
-        }
-        _ => assert!(rt; false),
-    }
-    Ok(())
+fn valued_entry(alloc: Global) -> Result<String, Fail> {
+    shown(
+        alloc,
+        &entry_of(alloc, &valued(alloc)?, &NoiseList::standard(alloc)?)?,
+    )
+}
+
+// How many pieces a filtering keeps, and the entry of its copy.
+fn filtered(alloc: Global) -> Result<String, Fail> {
+    let filtering = Filtering::of(alloc, valued(alloc)?, &NoiseList::standard(alloc)?)?;
+    let entry = shown(alloc, &filtering.copy(alloc)?.entry)?;
+    let pieces = filtering.transcript.items().len();
+    Ok(format!(in alloc; "{pieces} {}", entry.as_str())?)
 }
 
 #[test]
-fn a_filtering_has_both(rt: HostRuntime) -> Result<(), Fail> {
-    let alloc = rt.alloc();
-    let noise = NoiseList::standard(alloc)?;
-    let filtering = Filtering::of(alloc, valued(alloc)?, &noise)?;
-    assert_eq!(rt; filtering.transcript.items().len(), 6);
-    assert_eq!(rt; filtering.entry.values().len(), 2);
-    assert_eq!(rt; filtering.copy(alloc)?.entry.values().len(), 2);
+fn the_first_value_of_the_right_kind_is_kept(rt: HostRuntime) -> Result<(), Fail> {
+    assert_eq!(rt; valued_entry(rt.alloc())?.as_str(), "3=12|5=red|");
+    assert_eq!(rt; filtered(rt.alloc())?.as_str(), "6 3=12|5=red|");
     Ok(())
+}
+
+// The entry of a plain text, and which places a key has there.
+fn plain(alloc: Global, property: u16, word: &str) -> Result<String, Fail> {
+    let path = PathText::read(alloc, b"/d/a.txt").ok().ok_or("a path")?;
+    let read = Transcript::plain(alloc, &path, "a red fox, a red dog")?;
+    let entry = entry_of(alloc, &read, &NoiseList::standard(alloc)?)?;
+    let key = Key {
+        property: PropNo(property),
+        word: Text::of(alloc, word)?,
+    };
+    let mut told = shown(alloc, &entry)?;
+    for place in entry.places(&key) {
+        write!(told, " {}", place.0)?;
+    }
+    Ok(told)
+}
+
+// Rows of a property and a word.
+struct InPlain;
+
+impl Table for InPlain {
+    fn told(alloc: Global, given: &str) -> Result<String, Fail> {
+        let (property, word) = given.split_once(' ').ok_or("a property")?;
+        plain(alloc, if property == "2" { 2 } else { 1 }, word)
+    }
 }
 
 #[test]
 fn a_plain_text_has_an_entry(rt: HostRuntime) -> Result<(), Fail> {
-    let alloc = rt.alloc();
-    let noise = NoiseList::standard(alloc)?;
-    let path = ci_base::PathText::read(alloc, b"/d/a.txt")
-        .ok()
-        .ok_or("a path")?;
-    let read = Transcript::plain(alloc, &path, "a red fox, a red dog")?;
-    let entry = entry_of(alloc, &read, &noise)?;
-    assert!(rt; stands(alloc, &entry, 1, "red", &[1, 4])?);
-    assert!(rt; stands(alloc, &entry, 2, "a.txt", &[])?);
-    assert_eq!(rt; entry.words().len(), 3);
-    assert_eq!(rt; entry.values().len(), 2);
-    assert!(rt; entry.words()[0].1.items() == [Place(5)].as_slice());
+    const ROWS: &str = "\
+1 red => 1:dog 5|1:fox 2|1:red 1 4|2=a.txt|3=20| 1 4
+2 a.txt => 1:dog 5|1:fox 2|1:red 1 4|2=a.txt|3=20|
+1 cat => 1:dog 5|1:fox 2|1:red 1 4|2=a.txt|3=20|";
+    assert_eq!(rt; unmet::<InPlain>(rt.alloc(), ROWS)?.as_str(), "");
     Ok(())
 }

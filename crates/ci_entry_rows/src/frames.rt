@@ -1,69 +1,107 @@
 //! Frames between the server and a daemon, byte by byte.
 
-use ci_base::{PathText, PropNo, Text, Value};
+use ci_base::{PathText, PropNo, Text, Text8, Value};
 use ci_chunk::{Break, ChunkState, StatChunk, Status};
 use ci_wire::{Answer, Call, Frame, FrameFault, Frames, encode_answer, encode_call};
 use std::alloc::Global;
 use std::test::Fail;
 
-fn path(alloc: Global) -> Result<PathText, Fail> {
-    Ok(PathText::read(alloc, b"/d/a.txt")?)
+// What the frames of some bytes are, fed in two pieces: `?` where there is less than one, `!` where
+// none begins, and `=` where it and its copy are this one.
+fn read(alloc: Global, bytes: &[u8], cut: usize, frame: &Frame) -> Result<String, Fail> {
+    let (front, rest) = bytes.split_at(cut.min(bytes.len()));
+    let mut told = String::new(alloc);
+    let mut frames = Frames::new(alloc)?;
+    frames.feed(front)?;
+    told.push(sign(frames.next(), frame))?;
+    frames.feed(rest)?;
+    let mut frames = frames.copy(alloc)?;
+    told.push(sign(frames.next(), frame))?;
+    told.push(sign(frames.next(), frame))?;
+    Ok(told)
 }
 
-// A frame of each kind with its spelling.
-fn calls(alloc: Global) -> Result<Vec<(Call, &'static [u8])>, Fail> {
-    let init = Call::Init {
-        flags: 80,
-        path: path(alloc)?,
-    };
-    let mut rows: Vec<(Call, &'static [u8])> = Vec::new(alloc);
-    rows.push((init, b"\x0d\x01\0\0\0\x50/d/a.txt"))?;
-    rows.push((Call::GetChunk, b"\x01\x02"))?;
-    rows.push((Call::GetText { max: 65_536 }, b"\x05\x03\0\x01\0\0"))?;
-    rows.push((Call::GetValue, b"\x01\x04"))?;
-    Ok(rows)
+fn sign(found: Result<Option<Frame>, FrameFault>, wanted: &Frame) -> char {
+    match found {
+        Ok(None) => '?',
+        Ok(Some(frame)) if frame == *wanted => '=',
+        Ok(Some(_)) => '+',
+        Err(_) => '!',
+    }
 }
 
-// Feeds the bytes in two pieces, cut at each place, and answers whether the frame came just at the end.
+// Whether the frame comes just at the end of its bytes, however they are cut.
 fn comes_whole(alloc: Global, spelling: &[u8], frame: &Frame) -> Result<bool, Fail> {
     for cut in 0..spelling.len() {
-        let mut frames = Frames::new(alloc)?;
-        frames.feed(&spelling[..cut])?;
-        if !matches!(frames.next(), Ok(None)) {
+        if read(alloc, spelling, cut, frame)?.as_str() != "?=?" {
             return Ok(false);
-        }
-        frames.feed(&spelling[cut..])?;
-        match frames.next() {
-            Ok(Some(found)) if found == *frame => {}
-            _ => return Ok(false),
         }
     }
     Ok(true)
 }
 
-#[test]
-fn calls_are_spelled_and_read_in_any_cutting(rt: HostRuntime) -> Result<(), Fail> {
-    let alloc = rt.alloc();
-    for (call, spelling) in calls(alloc)? {
-        assert_eq!(rt; encode_call(alloc, &call)?.items(), spelling);
-        assert!(rt; comes_whole(alloc, spelling, &Frame::Call(call))?);
+fn is_call(alloc: Global, call: Call, spelling: &[u8]) -> Result<bool, Fail> {
+    let same = encode_call(alloc, &call)?.items() == spelling && call.copy(alloc)? == call;
+    Ok(same && comes_whole(alloc, spelling, &Frame::Call(call))?)
+}
+
+// Whether an answer has these bytes, which are also its frame's.
+fn is_answer(alloc: Global, answer: Answer, bytes: &Text8, spelling: &[u8]) -> Result<bool, Fail> {
+    let same = bytes.items() == spelling && answer.copy(alloc)? == answer;
+    Ok(same && comes_whole(alloc, spelling, &Frame::Answer(answer))?)
+}
+
+fn is_status(alloc: Global, status: Status, spelling: &[u8]) -> Result<bool, Fail> {
+    let answer = Answer::Status(status);
+    let bytes = encode_answer(alloc, &answer)?;
+    is_answer(alloc, answer, &bytes, spelling)
+}
+
+fn is_chunk(alloc: Global, chunk: StatChunk, spelling: &[u8]) -> Result<bool, Fail> {
+    let answer = Answer::Chunk(chunk);
+    let bytes = encode_answer(alloc, &answer)?;
+    is_answer(alloc, answer, &bytes, spelling)
+}
+
+// The last text of a chunk, which is short enough to be spelled.
+fn is_text(alloc: Global, text: &str, spelling: &[u8]) -> Result<bool, Fail> {
+    if text.len() > 65_536 {
+        return Err("a short text".into());
     }
-    Ok(())
+    let text = Text::of(alloc, text)?;
+    let status = Status::FILTER_S_LAST_TEXT;
+    let answer = Answer::Text { status, text };
+    let bytes = encode_answer(alloc, &answer)?;
+    is_answer(alloc, answer, &bytes, spelling)
+}
+
+fn is_number(alloc: Global, number: i64, spelling: &[u8]) -> Result<bool, Fail> {
+    let value = Value::Int(number);
+    let status = Status::S_OK;
+    let answer = Answer::Value { status, value };
+    let bytes = encode_answer(alloc, &answer)?;
+    is_answer(alloc, answer, &bytes, spelling)
+}
+
+fn init(alloc: Global) -> Result<Call, Fail> {
+    Ok(Call::Init {
+        flags: 80,
+        path: PathText::read(alloc, b"/d/a.txt")?,
+    })
 }
 
 #[test]
-fn statuses_and_chunks_are_spelled(rt: HostRuntime) -> Result<(), Fail> {
+fn calls_are_spelled_and_read_in_any_cutting(rt: HostRuntime) -> Result<(), Fail> {
     let alloc = rt.alloc();
-    let good = Answer::Status(Status::S_OK);
-    let bytes = encode_answer(alloc, &good)?;
-    assert_eq!(rt; bytes.items(), b"\x05\x10\0\0\0\0".as_slice());
-    assert!(rt; comes_whole(alloc, bytes.items(), &Frame::Answer(good))?);
+    assert!(rt; is_call(alloc, init(alloc)?, b"\x0d\x01\0\0\0\x50/d/a.txt")?);
+    assert!(rt; is_call(alloc, Call::GetChunk, b"\x01\x02")?);
+    assert!(rt; is_call(alloc, Call::GetText { max: 65_536 }, b"\x05\x03\0\x01\0\0")?);
+    assert!(rt; is_call(alloc, Call::GetValue, b"\x01\x04")?);
+    Ok(())
+}
 
-    let ended = Answer::Status(Status::FILTER_E_END_OF_CHUNKS);
-    let bytes = encode_answer(alloc, &ended)?;
-    assert_eq!(rt; bytes.items(), b"\x05\x10\x80\x04\x17\0".as_slice());
-
-    let chunk = Answer::Chunk(StatChunk {
+fn chunk() -> StatChunk {
+    StatChunk {
         id: 1,
         break_type: Break::Eop,
         state: ChunkState::Value,
@@ -72,91 +110,54 @@ fn statuses_and_chunks_are_spelled(rt: HostRuntime) -> Result<(), Fail> {
         source: 1,
         start: 0,
         length: 0,
-    });
-    let bytes = encode_answer(alloc, &chunk)?;
-    let spelling = b"\x19\x11\0\0\0\x01\x03\x02\0\0\0\0\0\x03\0\0\0\x01\0\0\0\0\0\0\0\0";
-    assert_eq!(rt; bytes.items(), spelling.as_slice());
-    assert!(rt; comes_whole(alloc, bytes.items(), &Frame::Answer(chunk))?);
-    Ok(())
+    }
 }
 
 #[test]
-fn texts_and_values_are_read(rt: HostRuntime) -> Result<(), Fail> {
+fn answers_are_spelled_and_read_in_any_cutting(rt: HostRuntime) -> Result<(), Fail> {
     let alloc = rt.alloc();
-    let text = Answer::Text {
-        status: Status::FILTER_S_LAST_TEXT,
-        text: Text::of(alloc, "red")?,
-    };
-    let spelling = b"\x08\x12\0\x04\x17\x09red".as_slice();
-    assert!(rt; comes_whole(alloc, spelling, &Frame::Answer(text))?);
-    let value = Answer::Value {
-        status: Status::S_OK,
-        value: Value::Int(-2),
-    };
-    let spelling = b"\x0e\x13\0\0\0\0\x01\xff\xff\xff\xff\xff\xff\xff\xfe".as_slice();
-    assert!(rt; comes_whole(alloc, spelling, &Frame::Answer(value))?);
+    assert!(rt; is_status(alloc, Status::S_OK, b"\x05\x10\0\0\0\0")?);
+    let ended = Status::FILTER_E_END_OF_CHUNKS;
+    assert!(rt; is_status(alloc, ended, b"\x05\x10\x80\x04\x17\0")?);
+    let spelling = b"\x19\x11\0\0\0\x01\x03\x02\0\0\0\0\0\x03\0\0\0\x01\0\0\0\0\0\0\0\0";
+    assert!(rt; is_chunk(alloc, chunk(), spelling)?);
+    assert!(rt; is_text(alloc, "red", b"\x08\x12\0\x04\x17\x09red")?);
+    let spelling = b"\x0e\x13\0\0\0\0\x01\xff\xff\xff\xff\xff\xff\xff\xfe";
+    assert!(rt; is_number(alloc, -2, spelling)?);
     Ok(())
+}
+
+// What some bytes are read as, and a frame behind them. A frame's copy equals it.
+fn refused(alloc: Global, bytes: &[u8]) -> Result<String, Fail> {
+    let frame = Frame::Call(Call::GetChunk);
+    if frame.copy(alloc)? != frame {
+        return Err("a copy equals its frame".into());
+    }
+    let mut all = Vec::from_slice(alloc, bytes)?;
+    all.extend_from_slice(b"\x01\x02")?;
+    read(alloc, all.as_slice(), bytes.len(), &frame)
 }
 
 #[test]
 fn other_bytes_are_no_frame(rt: HostRuntime) -> Result<(), Fail> {
-    let alloc = rt.alloc();
-    let rows: [&[u8]; 6] = [
+    let rows: [(&[u8], &str); 8] = [
         // a second spelling of the length, no bytes, too many, and no such kind
-        b"\x8d\0\x01\0\0\0\x50/d/a.txt",
-        b"\0",
-        b"\x81\x80\x08",
-        b"\x01\x05",
+        (b"\x8d\0\x01\0\0\0\x50/d/a.txt", "!!!"),
+        (b"\0", "!!!"),
+        (b"\x81\x80\x08", "!!!"),
+        (b"\x01\x05", "!!!"),
         // a break of 5, and a path that is none
-        b"\x19\x11\0\0\0\x01\x05\x02\0\0\0\0\0\x03\0\0\0\x01\0\0\0\0\0\0\0\0",
-        b"\x08\x01\0\0\0\x50/d/",
+        (
+            b"\x19\x11\0\0\0\x01\x05\x02\0\0\0\0\0\x03\0\0\0\x01\0\0\0\0\0\0\0\0",
+            "!!!",
+        ),
+        (b"\x08\x01\0\0\0\x50/d/", "!!!"),
+        // a frame before another one
+        (b"\x01\x04", "+=?"),
+        (b"\x01\x04\x01\x04", "++="),
     ];
-    for bytes in rows {
-        let mut frames = Frames::new(alloc)?;
-        frames.feed(bytes)?;
-        for _ in 0..2 {
-            assert!(rt; matches!(frames.next(), Err(FrameFault::BadFrame)));
-        }
-        frames.feed(b"\x01\x02")?;
-        assert!(rt; matches!(frames.next(), Err(FrameFault::BadFrame)));
+    for (bytes, wanted) in rows {
+        assert_eq!(rt; refused(rt.alloc(), bytes)?.as_str(), wanted);
     }
-    Ok(())
-}
-
-#[test]
-fn copies_equal_what_they_copy(rt: HostRuntime) -> Result<(), Fail> {
-    let alloc = rt.alloc();
-    for (call, _) in calls(alloc)? {
-        assert!(rt; call.copy(alloc)? == call);
-    }
-    let answers = vec![in alloc;
-        Answer::Status(Status::S_OK),
-        Answer::Text {
-            status: Status::S_OK,
-            text: Text::of(alloc, "red")?
-        },
-        Answer::Value {
-            status: Status::S_OK,
-            value: Value::Int(-2)
-        },
-    ]?;
-    for answer in answers {
-        assert!(rt; answer.copy(alloc)? == answer);
-        let frame = Frame::Answer(answer);
-        assert!(rt; frame.copy(alloc)? == frame);
-    }
-    Ok(())
-}
-
-#[test]
-fn a_copy_holds_the_bytes_that_are_left(rt: HostRuntime) -> Result<(), Fail> {
-    let alloc = rt.alloc();
-    let mut frames = Frames::new(alloc)?;
-    frames.feed(b"\x01\x02\x01\x04")?;
-    assert!(rt; matches!(frames.next(), Ok(Some(Frame::Call(Call::GetChunk)))));
-    let mut copied = frames.copy(alloc)?;
-    assert!(rt; matches!(copied.next(), Ok(Some(Frame::Call(Call::GetValue)))));
-    assert!(rt; matches!(copied.next(), Ok(None)));
-    assert!(rt; matches!(frames.next(), Ok(Some(Frame::Call(Call::GetValue)))));
     Ok(())
 }

@@ -1,45 +1,66 @@
 //! Keys and properties.
 
+use crate::table::{Table, unmet};
 use ci_base::{PropNo, Text};
 use ci_keys::Key;
 use ci_props::{Kind, kind_of, named};
 use std::alloc::Global;
 use std::test::Fail;
 
-fn key(alloc: Global, property: u16, word: &str) -> Result<Key, Fail> {
+fn key(alloc: Global, text: &str) -> Result<Key, Fail> {
+    let (property, word) = text.split_once(' ').ok_or("a key")?;
     Ok(Key {
-        property: PropNo(property),
+        property: PropNo(if property == "2" { 2 } else { 1 }),
         word: Text::of(alloc, word)?,
     })
 }
 
+// Rows of two keys, each the number of a property and a word.
+struct Before;
+
+impl Table for Before {
+    fn told(alloc: Global, given: &str) -> Result<String, Fail> {
+        let (one, other) = given.split_once("; ").ok_or("two keys")?;
+        let before = key(alloc, one)? < key(alloc, other)?.copy(alloc)?;
+        Ok(format!(in alloc; "{before}")?)
+    }
+}
+
 #[test]
 fn keys_are_in_order_by_property_first(rt: HostRuntime) -> Result<(), Fail> {
-    let alloc = rt.alloc();
-    assert!(rt; key(alloc, 1, "zebra")? < key(alloc, 2, "ant")?);
-    assert!(rt; key(alloc, 1, "a")? < key(alloc, 1, "ab")?);
-    assert!(rt; key(alloc, 1, "a")? == key(alloc, 1, "a")?.copy(alloc)?);
+    const ROWS: &str = "\
+1 zebra; 2 ant => true
+2 ant; 1 zebra => false
+1 a; 1 ab => true
+1 a; 1 a => false";
+    assert_eq!(rt; unmet::<Before>(rt.alloc(), ROWS)?.as_str(), "");
     Ok(())
+}
+
+// Rows of names: the number of the property and its kind.
+struct Named;
+
+impl Table for Named {
+    fn told(alloc: Global, given: &str) -> Result<String, Fail> {
+        let number = named(given).map(|property| property.0);
+        Ok(format!(in alloc; "{number:?} {:?}", number.map(|n| kind_of(PropNo(n))))?)
+    }
 }
 
 #[test]
 fn properties_have_names_and_kinds(rt: HostRuntime) -> Result<(), Fail> {
-    assert_eq!(rt; named("dockeywords"), Some(PropNo(8)));
-    assert_eq!(rt; named("CONTENTS"), Some(PropNo(1)));
-    assert_eq!(rt; named("Keywords"), None);
-    assert_eq!(rt; named(""), None);
-    let kinds = [
-        (0, None),
-        (1, Some(Kind::Words)),
-        (2, Some(Kind::Str)),
-        (3, Some(Kind::Int)),
-        (4, Some(Kind::Int)),
-        (5, Some(Kind::Str)),
-        (9, Some(Kind::Str)),
-        (10, None),
-    ];
-    for (number, kind) in kinds {
-        assert_eq!(rt; kind_of(PropNo(number)), kind);
-    }
+    const ROWS: &str = "\
+CONTENTS => Some(1) Some(Some(Words))
+FileName => Some(2) Some(Some(Str))
+Size => Some(3) Some(Some(Int))
+Write => Some(4) Some(Some(Int))
+DocTitle => Some(5) Some(Some(Str))
+dockeywords => Some(8) Some(Some(Str))
+Keywords => None None
+\x20=> None None";
+    assert_eq!(rt; unmet::<Named>(rt.alloc(), ROWS)?.as_str(), "");
+    assert_eq!(rt; kind_of(PropNo(9)), Some(Kind::Str));
+    assert_eq!(rt; kind_of(PropNo(0)), None);
+    assert_eq!(rt; kind_of(PropNo(10)), None);
     Ok(())
 }

@@ -14,3 +14,5 @@ mod keys;
 mod patterns;
 #[cfg(test)]
 mod pieces;
+#[cfg(test)]
+mod table;

@@ -1,58 +1,110 @@
 //! How values compare, and which texts match a pattern.
 
+use crate::table::{Table, unmet};
 use ci_base::{Text, Value};
 use ci_props::{Relation, compare, matches_pattern};
+use std::alloc::Global;
 use std::test::Fail;
+
+// Rows of a pattern and a text.
+struct Matched;
+
+impl Table for Matched {
+    fn told(alloc: Global, given: &str) -> Result<String, Fail> {
+        let (pattern, text) = given.split_once(';').ok_or("a text")?;
+        let found = matches_pattern(pattern, text);
+        Ok(format!(in alloc; "{found}")?)
+    }
+}
 
 #[test]
 fn patterns_match_whole_texts(rt: HostRuntime) -> Result<(), Fail> {
-    let rows = [
-        ("", "", true),
-        ("", "a", false),
-        ("*", "", true),
-        ("*", "abc", true),
-        ("**", "abc", true),
-        ("?", "", false),
-        ("?", "a", true),
-        ("?", "é", true),
-        ("??", "é", false),
-        ("*.txt", "a.txt", true),
-        ("*.txt", "a.txt.bak", false),
-        ("a*b*c", "aXbYbZc", true),
-        ("a*b*c", "aXcYb", false),
-        ("*ß?", "Straße", true),
-        ("a?c", "a*c", true),
-        ("A", "a", false),
-    ];
-    for (pattern, text, wanted) in rows {
-        assert_eq!(rt; matches_pattern(pattern, text), wanted, "{pattern} {text}");
-    }
+    const ROWS: &str = "\
+; => true
+;a => false
+*; => true
+*;abc => true
+**;abc => true
+?; => false
+?;a => true
+?;é => true
+??;é => false
+*.txt;a.txt => true
+*.txt;a.txt.bak => false
+a*b*c;aXbYbZc => true
+a*b*c;aXcYb => false
+*ß?;Straße => true
+a?c;a*c => true
+A;a => false";
+    assert_eq!(rt; unmet::<Matched>(rt.alloc(), ROWS)?.as_str(), "");
     Ok(())
+}
+
+// How two texts stand to each other, also as values of two kinds, which don't.
+fn compare_texts(
+    alloc: Global,
+    relation: Relation,
+    one: &str,
+    other: &str,
+) -> Result<String, Fail> {
+    let one = Value::Str(Text::of(alloc, one)?);
+    let other = Value::Str(Text::of(alloc, other)?);
+    let apart = compare(relation, &one, &Value::Int(1)).is_none()
+        && compare(relation, &Value::Int(1), &one).is_none();
+    Ok(format!(in alloc; "{:?} {apart}", compare(relation, &one, &other))?)
+}
+
+fn relation_named(sign: &str) -> Relation {
+    match sign {
+        "<" => Relation::Lt,
+        "<=" => Relation::Le,
+        ">" => Relation::Gt,
+        ">=" => Relation::Ge,
+        "=" => Relation::Eq,
+        _ => Relation::Ne,
+    }
+}
+
+// Rows of a relation and two texts.
+struct Compared;
+
+impl Table for Compared {
+    fn told(alloc: Global, given: &str) -> Result<String, Fail> {
+        let (one, rest) = given.split_once(' ').ok_or("a text")?;
+        let (sign, other) = rest.split_once(' ').ok_or("a sign")?;
+        compare_texts(alloc, relation_named(sign), one, other)
+    }
 }
 
 #[test]
 fn values_of_one_kind_compare(rt: HostRuntime) -> Result<(), Fail> {
-    let alloc = rt.alloc();
-    let rows = [
-        (Relation::Lt, [true, false, false]),
-        (Relation::Le, [true, true, false]),
-        (Relation::Gt, [false, false, true]),
-        (Relation::Ge, [false, true, true]),
-        (Relation::Eq, [false, true, false]),
-        (Relation::Ne, [true, false, true]),
-    ];
-    let (red, blue) = (Text::of(alloc, "red")?, Text::of(alloc, "blue")?);
-    let (low, high) = (Value::Str(blue), Value::Str(red));
-    for (relation, [less, equal, greater]) in rows {
-        assert_eq!(rt;
-            compare(relation, &Value::Int(-5), &Value::Int(4)),
-            Some(less)
-        );
-        assert_eq!(rt; compare(relation, &low, &high), Some(less));
-        assert_eq!(rt; compare(relation, &high, &high), Some(equal));
-        assert_eq!(rt; compare(relation, &high, &low), Some(greater));
-        assert!(rt; compare(relation, &low, &Value::Int(1)).is_none());
-        assert!(rt; compare(relation, &Value::Int(1), &low).is_none());
-    }
+    const ROWS: &str = "\
+blue < red => Some(true) true
+red < red => Some(false) true
+red < blue => Some(false) true
+blue <= red => Some(true) true
+red <= red => Some(true) true
+red <= blue => Some(false) true
+blue > red => Some(false) true
+red > red => Some(false) true
+red > blue => Some(true) true
+blue >= red => Some(false) true
+red >= red => Some(true) true
+red >= blue => Some(true) true
+blue = red => Some(false) true
+red = red => Some(true) true
+red = blue => Some(false) true
+blue != red => Some(true) true
+red != red => Some(false) true
+red != blue => Some(true) true";
+    assert_eq!(rt; unmet::<Compared>(rt.alloc(), ROWS)?.as_str(), "");
+    assert_eq!(rt;
+        compare(Relation::Lt, &Value::Int(-5), &Value::Int(4)),
+        Some(true)
+    );
+    assert_eq!(rt;
+        compare(Relation::Ge, &Value::Int(-5), &Value::Int(4)),
+        Some(false)
+    );
     Ok(())
 }

@@ -1,34 +1,31 @@
 //! Queries cut into pieces.
 
-use ci_pieces::{PieceKind, pieces};
-use ci_props::Relation;
+use crate::table::{Table, unmet};
+use ci_pieces::pieces;
+use std::alloc::Global;
 use std::test::Fail;
+
+// Rows of queries: the pieces of each with their places and what they say.
+struct Cut;
+
+impl Table for Cut {
+    fn told(alloc: Global, given: &str) -> Result<String, Fail> {
+        let mut told = String::new(alloc);
+        for piece in pieces(alloc, given)? {
+            write!(told, "{:?} {} {}|", piece.kind(), piece.at(), piece.text())?;
+        }
+        Ok(told)
+    }
+}
 
 #[test]
 fn a_query_is_cut_into_pieces(rt: HostRuntime) -> Result<(), Fail> {
-    let text = "(re*|\"a b\") And @Size>=-5 #Filename *.txt @ x\"";
-    let rows = [
-        (PieceKind::Open, "", 0),
-        (PieceKind::Run, "re*", 1),
-        (PieceKind::Or, "", 4),
-        (PieceKind::Quoted, "a b", 5),
-        (PieceKind::Close, "", 10),
-        (PieceKind::And, "And", 12),
-        (PieceKind::Property, "Size", 16),
-        (PieceKind::Relates(Relation::Ge), "", 21),
-        (PieceKind::Bare, "-5", 23),
-        (PieceKind::Pattern, "Filename", 26),
-        (PieceKind::Bare, "*.txt", 36),
-        (PieceKind::Broken, "", 42),
-        (PieceKind::Run, "x", 44),
-        (PieceKind::Broken, "", 45),
-    ];
-    let found = pieces(rt.alloc(), text)?;
-    assert_eq!(rt; found.len(), rows.len());
-    for (piece, (kind, says, at)) in found.iter().zip(rows) {
-        assert_eq!(rt; piece.kind(), kind, "{at}");
-        assert_eq!(rt; piece.at(), at);
-        assert!(rt; piece.text() == says, "{at}");
-    }
+    const ROWS: &str = "\
+(re*|\"a b\") => Open 0 |Run 1 re*|Or 4 |Quoted 5 a b|Close 10 |
+\x20And @Size>=-5 => And 1 And|Property 5 Size|Relates(Ge) 10 |Bare 12 -5|
+#Filename *.txt => Pattern 0 Filename|Bare 10 *.txt|
+@ x\" => Broken 0 |Run 2 x|Broken 3 |
+\x20\t  => ";
+    assert_eq!(rt; unmet::<Cut>(rt.alloc(), ROWS)?.as_str(), "");
     Ok(())
 }

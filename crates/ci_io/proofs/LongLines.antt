@@ -3,7 +3,7 @@ use Rattle.std.proofs.Common.{◌≡◌, ◌≢◌, ℕ, ◌+◌, ◌-◌, ◌<�
 use Rattle.std.proofs.KnownBytes.{Consumes-trans, Consumes-kept, Consumes-whole, Keeps-refl, prepend_known-nil}
 use Rattle.std.specs.Prelude.{Option}
 use Rattle.std.specs.Io.KnownBytes.{prepend_known, Keeps, Consumes, IsAtEnd}
-use Rattle.ci_io.specs.declared.line.TheConstants.{LINE_BYTES, ENDLESS_BYTES}
+use Rattle.ci_io.specs.Limits.{line_bytes, endless_bytes}
 use Rattle.ci_io.specs.declared.line.Line.TheVariants.{Long}
 use Rattle.ci_io.specs.Lines.{HasFeedAt, HasNoFeed, raw_lines}
 use Rattle.ci_io.specs.Reading.{Reading, Gathers, TakesLine, TakesFed, TakesAll, IsEndless, BeginsTooLong, Loses, ahead}
@@ -16,7 +16,7 @@ use Rattle.ci_io.proofs.TakenLines.{line_of-long, Consumes-none, Keeps-gathers}
 pub record IsPassing (first now : Reading) (passed : ℕ) : Type 0 where
   pub lost : List ℕ
   pub count : length lost ≡ passed
-  pub long : LINE_BYTES < length lost
+  pub long : line_bytes < length lost
   pub whole : HasNoFeed lost
   pub left : Consumes (ahead first) now.left lost
   pub held : now.held ≡ []
@@ -40,7 +40,7 @@ parts_fed lost part rest =
 
 -- a long line was taken with its line feed
 TakesLine-fed : (all after : Option (List ℕ)) (lost part : List ℕ) → Consumes all after (lost ++ (part ++ 10 ∷ [])) → HasNoFeed (lost ++ part)
-    → LINE_BYTES < length (lost ++ part) → length (lost ++ part) < ENDLESS_BYTES → TakesLine all after Long
+    → line_bytes < length (lost ++ part) → length (lost ++ part) < endless_bytes → TakesLine all after Long
 TakesLine-fed None after lost part consumes whole long within = tt
 TakesLine-fed (Some all) None lost part consumes whole long within = absurd consumes
 TakesLine-fed (Some all) (Some rest) lost part consumes whole long within =
@@ -57,14 +57,14 @@ TakesLine-fed (Some all) (Some rest) lost part consumes whole long within =
     )
 
 TakesFed-fed : (all after : Option (List ℕ)) (lost part : List ℕ) → Consumes all after (lost ++ (part ++ 10 ∷ [])) → HasNoFeed (lost ++ part)
-    → LINE_BYTES < length (lost ++ part) → TakesFed all after Long
+    → line_bytes < length (lost ++ part) → TakesFed all after Long
 TakesFed-fed None after lost part consumes whole long = tt
 TakesFed-fed (Some all) None lost part consumes whole long = absurd consumes
 TakesFed-fed (Some all) (Some rest) lost part consumes whole long = (lost ++ part, sym (line_of-long (lost ++ part) long), whole, consumes ∙ parts_fed lost part rest)
 
 -- a long line was taken to the end of the source
 TakesLine-end : (all after : Option (List ℕ)) (lost : List ℕ) → Consumes all after lost → IsAtEnd after → HasNoFeed lost
-    → LINE_BYTES < length lost → length lost < ENDLESS_BYTES → TakesLine all after Long
+    → line_bytes < length lost → length lost < endless_bytes → TakesLine all after Long
 TakesLine-end None after lost consumes end whole long within = tt
 TakesLine-end (Some all) None lost consumes end whole long within = absurd consumes
 TakesLine-end (Some all) (Some rest) lost consumes end whole long within =
@@ -74,7 +74,7 @@ TakesLine-end (Some all) (Some rest) lost consumes end whole long within =
     subst (λ (l : List ℕ). P all l) (sym end) (subst (λ (l : List ℕ). P l []) same (lost, within, sym (line_of-long lost long), IsFirstLine-last lost whole some))
 
 -- bytes without a line feed begin a line that is as long
-BeginsTooLong-lost : (all after : Option (List ℕ)) (lost : List ℕ) → Consumes all after lost → HasNoFeed lost → ENDLESS_BYTES ≤ length lost → BeginsTooLong all
+BeginsTooLong-lost : (all after : Option (List ℕ)) (lost : List ℕ) → Consumes all after lost → HasNoFeed lost → endless_bytes ≤ length lost → BeginsTooLong all
 BeginsTooLong-lost None after lost consumes whole endless = tt
 BeginsTooLong-lost (Some all) None lost consumes whole endless = absurd consumes
 BeginsTooLong-lost (Some all) (Some rest) lost consumes whole endless =
@@ -83,13 +83,13 @@ BeginsTooLong-lost (Some all) (Some rest) lost consumes whole endless =
     (lost ++ more, others, ap raw_lines consumes ∙ begun, omega (arith, endless, length-append lost more))
 
 module _ (first now next : Reading) (passed : ℕ) (passing : IsPassing first now passed) where
-  fed_whole : (fed : PassesFeed now next (ENDLESS_BYTES - passed)) → HasNoFeed (passing.lost ++ fed.part)
+  fed_whole : (fed : PassesFeed now next (endless_bytes - passed)) → HasNoFeed (passing.lost ++ fed.part)
   fed_whole fed = HasNoFeed-append passing.lost fed.part passing.whole fed.whole
 
-  fed_left : (fed : PassesFeed now next (ENDLESS_BYTES - passed)) → Consumes (ahead first) (ahead next) (passing.lost ++ (fed.part ++ 10 ∷ []))
+  fed_left : (fed : PassesFeed now next (endless_bytes - passed)) → Consumes (ahead first) (ahead next) (passing.lost ++ (fed.part ++ 10 ∷ []))
   fed_left fed = Consumes-trans (ahead first) now.left (ahead next) passing.lost (fed.part ++ 10 ∷ []) passing.left fed.ahead
 
-  fed_long : (fed : PassesFeed now next (ENDLESS_BYTES - passed)) → LINE_BYTES < length (passing.lost ++ fed.part)
+  fed_long : (fed : PassesFeed now next (endless_bytes - passed)) → line_bytes < length (passing.lost ++ fed.part)
   fed_long fed = omega (arith, length-append passing.lost fed.part, passing.long)
 
   -- nothing is held, so what the source has left is all that is ahead
@@ -99,7 +99,7 @@ module _ (first now next : Reading) (passed : ℕ) (passing : IsPassing first no
       subst (λ (l : Option (List ℕ)). Consumes (ahead first) l passing.lost) (sym same) (Consumes-kept (ahead first) now.left next.left passing.lost passing.left kept)
 
   -- what was read when the line has ended
-  pub TakesLine-passed : passed < ENDLESS_BYTES → PassesFeed now next (ENDLESS_BYTES - passed) ⊎ PassesEnd now next → TakesLine (ahead first) (ahead next) Long
+  pub TakesLine-passed : passed < endless_bytes → PassesFeed now next (endless_bytes - passed) ⊎ PassesEnd now next → TakesLine (ahead first) (ahead next) Long
   TakesLine-passed within ended = elim ended [
     | inl fed ↦ TakesLine-fed (ahead first) (ahead next) passing.lost fed.part (fed_left fed) (fed_whole fed) (fed_long fed)
         (omega (arith, length-append passing.lost fed.part, passing.count, fed.bound))
@@ -108,13 +108,13 @@ module _ (first now next : Reading) (passed : ℕ) (passing : IsPassing first no
         TakesLine-end (ahead first) (ahead next) passing.lost (end_left end.kept end.held) at_end passing.whole passing.long (omega (arith, passing.count))
   ]
 
-  pub TakesFed-passed : PassesFeed now next (ENDLESS_BYTES - passed) ⊎ PassesEnd now next → next.ended ≡ false → TakesFed (ahead first) (ahead next) Long
+  pub TakesFed-passed : PassesFeed now next (endless_bytes - passed) ⊎ PassesEnd now next → next.ended ≡ false → TakesFed (ahead first) (ahead next) Long
   TakesFed-passed ended untold = elim ended [
     | inl fed ↦ TakesFed-fed (ahead first) (ahead next) passing.lost fed.part (fed_left fed) (fed_whole fed) (fed_long fed)
     | inr end ↦ let no : true ≡ false = sym end.ended ∙ untold in cc
   ]
 
-  pub TakesAll-passed : PassesFeed now next (ENDLESS_BYTES - passed) ⊎ PassesEnd now next → next.ended ≡ true → TakesAll first next
+  pub TakesAll-passed : PassesFeed now next (endless_bytes - passed) ⊎ PassesEnd now next → next.ended ≡ true → TakesAll first next
   TakesAll-passed ended told = elim ended [
     | inl fed ↦ let no : false ≡ true = sym fed.ended ∙ told in cc
     | inr end ↦
@@ -135,7 +135,7 @@ module _ (first now next : Reading) (passed : ℕ) (passing : IsPassing first no
     long = inr passing.long;
   }
 
-module _ (first now : Reading) (passed : ℕ) (passing : IsPassing first now passed) (endless : passed ≡ ENDLESS_BYTES) where
+module _ (first now : Reading) (passed : ℕ) (passing : IsPassing first now passed) (endless : passed ≡ endless_bytes) where
   pub IsEndless-passed : IsEndless first now
   unfolding Loses-passed
   IsEndless-passed =

@@ -4,7 +4,7 @@ use Rattle.std.proofs.lemmas.Bool.{le-leb, lt-leb}
 use Rattle.std.specs.Prelude.{Option, IfSome}
 use Rattle.std.specs.Io.BufRead.{ends_with_byte}
 use Rattle.std.specs.Io.KnownBytes.{prepend_known, Keeps, Consumes}
-use Rattle.ci_io.specs.declared.line.TheConstants.{LINE_BYTES}
+use Rattle.ci_io.specs.Limits.{line_bytes}
 use Rattle.ci_io.specs.declared.line.Line.{Line}
 use Rattle.ci_io.specs.declared.line.Line.TheVariants.{Text, Long}
 use Rattle.ci_io.specs.Lines.{HasNoFeed, HasFeedAt, without_return}
@@ -12,11 +12,11 @@ use Rattle.ci_io.specs.Reading.{Reading, Gathers, TakesLine, TakesFed, TakesAll,
 use Rattle.ci_io.proofs.FirstLines.{parts_at_feed, IsFirstLine-feed, IsFirstLine-last}
 
 -- what is read for a line by its length
-pub line_of-text : (raw : List ℕ) → length raw ≤ LINE_BYTES → line_of raw ≡ Text (without_return raw)
-line_of-text raw short = rw (le-leb (length raw) LINE_BYTES short)
+pub line_of-text : (raw : List ℕ) → length raw ≤ line_bytes → line_of raw ≡ Text (without_return raw)
+line_of-text raw short = rw (le-leb (length raw) line_bytes short)
 
-pub line_of-long : (raw : List ℕ) → LINE_BYTES < length raw → line_of raw ≡ Long
-line_of-long raw long = rw (lt-leb (length raw) LINE_BYTES long)
+pub line_of-long : (raw : List ℕ) → line_bytes < length raw → line_of raw ≡ Long
+line_of-long raw long = rw (lt-leb (length raw) line_bytes long)
 
 without_return-short : (line : List ℕ) → length (without_return line) ≤ length line
 without_return-short line = by (ends_with_byte 13 line) refl
@@ -26,7 +26,7 @@ without_return-short line = by (ends_with_byte 13 line) refl
     by false e = rw e (omega arith)
 
 -- a line within the bound gives a text within it
-pub IsShort-taken : (held text : List ℕ) (count : ℕ) → count ≤ LINE_BYTES → text ≡ without_return (take count held) → length text ≤ LINE_BYTES
+pub IsShort-taken : (held text : List ℕ) (count : ℕ) → count ≤ line_bytes → text ≡ without_return (take count held) → length text ≤ line_bytes
 IsShort-taken held text count short is = omega (arith, ap length is, without_return-short (take count held), length-take count held)
 
 -- bytes that move from the source to the held ones are still ahead
@@ -60,12 +60,12 @@ TakesLine-kept (Some xs) None c line kept taken = absurd kept
 TakesLine-kept (Some xs) (Some ys) c line kept taken = let P : List ℕ → Type 0 = λ l. TakesLine (Some l) c line in subst P kept taken
 
 -- a line up to its line feed is handed out
-TakesLine-feed : (held : List ℕ) (left : Option (List ℕ)) (place : ℕ) → HasFeedAt held place → place ≤ LINE_BYTES
+TakesLine-feed : (held : List ℕ) (left : Option (List ℕ)) (place : ℕ) → HasFeedAt held place → place ≤ line_bytes
     → TakesLine (prepend_known held left) (prepend_known (drop (place + 1) held) left) (Text (without_return (take place held)))
 TakesLine-feed held None place found short = tt
 TakesLine-feed held (Some rest) place found short =
     let raw = take place held in
-    let few : length raw ≤ LINE_BYTES = omega (arith, length-take place held) in
+    let few : length raw ≤ line_bytes = omega (arith, length-take place held) in
     (raw, omega arith, sym (line_of-text raw few), IsFirstLine-feed held rest place found)
 
 -- the last bytes are handed out as a line
@@ -78,7 +78,7 @@ TakesLine-last held (Some rest) last some =
     subst (λ (l : List ℕ). P (held ++ rest) l) (sym last.ended)
     (subst (λ (l : List ℕ). P l []) (sym whole) (held, omega arith, sym (line_of-text held few), IsFirstLine-last held last.whole some))
 
-pub TakesLine-gathered : (old mid new : Reading) (place : ℕ) (text : List ℕ) → Gathers old mid → HasFeedAt mid.held place → place ≤ LINE_BYTES
+pub TakesLine-gathered : (old mid new : Reading) (place : ℕ) (text : List ℕ) → Gathers old mid → HasFeedAt mid.held place → place ≤ line_bytes
     → text ≡ without_return (take place mid.held) → new.held ≡ drop (place + 1) mid.held → new.left ≡ mid.left → TakesLine (ahead old) (ahead new) (Text text)
 TakesLine-gathered old mid new place text gathers found short copied held left =
     rw (copied, held, left) (TakesLine-kept (ahead old) (ahead mid) _ _ (Keeps-gathers old mid gathers) (TakesLine-feed mid.held mid.left place found short))
@@ -89,7 +89,7 @@ TakesLine-ended old mid new text gathers last some copied held left =
     rw (copied, held, left) (TakesLine-kept (ahead old) (ahead mid) _ _ (Keeps-gathers old mid gathers) (TakesLine-last mid.held mid.left last some))
 
 -- a line up to its line feed, and the feed, are handed out
-TakesFed-feed : (held : List ℕ) (left : Option (List ℕ)) (place : ℕ) → HasFeedAt held place → place ≤ LINE_BYTES
+TakesFed-feed : (held : List ℕ) (left : Option (List ℕ)) (place : ℕ) → HasFeedAt held place → place ≤ line_bytes
     → TakesFed (prepend_known held left) (prepend_known (drop (place + 1) held) left) (Text (without_return (take place held)))
 TakesFed-feed held None place found short = tt
 TakesFed-feed held (Some rest) place found short =
@@ -101,7 +101,7 @@ TakesFed-kept None b c line kept taken = tt
 TakesFed-kept (Some xs) None c line kept taken = absurd kept
 TakesFed-kept (Some xs) (Some ys) c line kept taken = let P : List ℕ → Type 0 = λ l. TakesFed (Some l) c line in subst P kept taken
 
-pub TakesFed-gathered : (old mid new : Reading) (place : ℕ) (text : List ℕ) → Gathers old mid → HasFeedAt mid.held place → place ≤ LINE_BYTES
+pub TakesFed-gathered : (old mid new : Reading) (place : ℕ) (text : List ℕ) → Gathers old mid → HasFeedAt mid.held place → place ≤ line_bytes
     → text ≡ without_return (take place mid.held) → new.held ≡ drop (place + 1) mid.held → new.left ≡ mid.left → TakesFed (ahead old) (ahead new) (Text text)
 TakesFed-gathered old mid new place text gathers found short copied held left =
     rw (copied, held, left) (TakesFed-kept (ahead old) (ahead mid) _ _ (Keeps-gathers old mid gathers) (TakesFed-feed mid.held mid.left place found short))

@@ -1,5 +1,6 @@
 pub mod Adapters
 pub mod Causes
+pub mod Limits
 pub mod Lines
 pub mod Memory
 pub mod Putting

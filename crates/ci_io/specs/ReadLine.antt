@@ -1,7 +1,7 @@
 -- What reading a line does to a reader.
 use Rattle.std.specs.Prelude.{◌≡◌, ◌<◌, ◌≤◌, ◌++◌, ◌⊎◌, ℕ, [], ◌∷◌, true, false, List, Option, Some, None, length}
 use Rattle.std.specs.Io.KnownBytes.{Consumes, IsAtEnd, Keeps}
-use Rattle.ci_io.specs.declared.line.TheConstants.{LINE_BYTES}
+use Rattle.ci_io.specs.Limits.{line_bytes}
 use Rattle.ci_io.specs.declared.line.Line.{Line}
 use Rattle.ci_io.specs.declared.line.Line.TheVariants.{Text, Long, End}
 use Rattle.ci_io.specs.declared.line_end.LineEnd.{LineEnd}
@@ -24,7 +24,7 @@ Feeds old new End = ⊥
 -- the reader holds the next line with its line feed, or the source has told its end and the last line is held, or the
 -- line goes on behind the held bytes, which are more than a text may have
 abbrev pub Finds : Reading → LineEnd → Type 0
-Finds r (Feed place) = (r.ended ≡ false) × HasFeedAt r.held place × (place ≤ LINE_BYTES)
+Finds r (Feed place) = (r.ended ≡ false) × HasFeedAt r.held place × (place ≤ line_bytes)
 Finds r Source = (r.ended ≡ true) × IsLastLine r.held r.left
 Finds r Beyond = (r.ended ≡ false) × IsLong r.held
 

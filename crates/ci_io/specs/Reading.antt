@@ -1,7 +1,7 @@
 -- What a reader of lines holds and has still to read.
 use Rattle.std.specs.Prelude.{◌≡◌, ℕ, ◌<◌, ◌≤◌, Bool, true, false, List, [], ◌∷◌, ◌++◌, ◌⊎◌, Option, Some, None, ⊤, IfSome, length, nat_le, if◌then◌else◌}
 use Rattle.std.specs.Io.KnownBytes.{prepend_known, Keeps, Consumes, IsAtEnd}
-use Rattle.ci_io.specs.declared.line.TheConstants.{LINE_BYTES, ENDLESS_BYTES}
+use Rattle.ci_io.specs.Limits.{line_bytes, endless_bytes}
 use Rattle.ci_io.specs.declared.line.Line.{Line}
 use Rattle.ci_io.specs.declared.line.Line.TheVariants.{Text, Long, End}
 use Rattle.ci_io.specs.Lines.{raw_lines, without_return, HasNoFeed, IsFirstLine}
@@ -18,13 +18,13 @@ pub record Reading : Type 0 where
 abbrev pub ahead : Reading → Option (List ℕ)
 ahead r = prepend_known r.held r.left
 
--- what is read for a line: its text without its return, unless it has over LINE_BYTES bytes
+-- what is read for a line: its text without its return, unless it has over line_bytes bytes
 abbrev pub line_of : List ℕ → Line
-line_of raw = if nat_le (length raw) LINE_BYTES then Text (without_return raw) else Long
+line_of raw = if nat_le (length raw) line_bytes then Text (without_return raw) else Long
 
 -- the text of a line has no more bytes than a text may have
 abbrev pub IsShort : Line → Type 0
-IsShort (Text text) = length text ≤ LINE_BYTES
+IsShort (Text text) = length text ≤ line_bytes
 IsShort Long = ⊤
 IsShort End = ⊤
 
@@ -33,7 +33,7 @@ abbrev pub TakesLine : Option (List ℕ) → Option (List ℕ) → Line → Type
 TakesLine None new line = ⊤
 TakesLine (Some all) None line = ⊥
 TakesLine (Some all) (Some rest) line =
-    (raw : List ℕ) × (length raw < ENDLESS_BYTES) × (line ≡ line_of raw) × IsFirstLine raw all rest
+    (raw : List ℕ) × (length raw < endless_bytes) × (line ≡ line_of raw) × IsFirstLine raw all rest
 
 -- known bytes lost their first line and the line feed that ended it, and the line was read
 abbrev pub TakesFed : Option (List ℕ) → Option (List ℕ) → Line → Type 0
@@ -69,32 +69,32 @@ pub record LeavesSource (old new : Reading) : Type 0 where
 -- nothing follows the held bytes, which are one line at most
 pub record IsLastLine (held : List ℕ) (left : Option (List ℕ)) : Type 0 where
   pub whole : HasNoFeed held
-  pub short : length held ≤ LINE_BYTES
+  pub short : length held ≤ line_bytes
   pub ended : IsAtEnd left
 
 -- the bytes have no line feed, and are more than a text may have
 abbrev pub IsLong : List ℕ → Type 0
-IsLong bytes = (LINE_BYTES < length bytes) × HasNoFeed bytes
+IsLong bytes = (line_bytes < length bytes) × HasNoFeed bytes
 
 -- the bytes ahead lost the beginning of a line: none, unless those lost are more than a text may have
 pub record Loses (old new : Reading) : Type 0 where
   pub lost : List ℕ
   pub ahead : Consumes (ahead old) (ahead new) lost
   pub whole : HasNoFeed lost
-  pub long : (lost ≡ []) ⊎ (LINE_BYTES < length lost)
+  pub long : (lost ≡ []) ⊎ (line_bytes < length lost)
 
 -- the bytes that were taken of one line, lost or held now, have no line feed; they make the line endless, and none
 -- was taken beyond
 pub record IsEndless (old new : Reading) : Type 0 where
   pub loses : Loses old new
   pub whole : HasNoFeed (loses.lost ++ new.held)
-  pub endless : length (loses.lost ++ new.held) ≡ ENDLESS_BYTES
+  pub endless : length (loses.lost ++ new.held) ≡ endless_bytes
 
--- known bytes begin with a line of ENDLESS_BYTES bytes at least
+-- known bytes begin with a line of endless_bytes bytes at least
 abbrev pub BeginsTooLong : Option (List ℕ) → Type 0
 BeginsTooLong None = ⊤
 BeginsTooLong (Some all) =
-    (raw : List ℕ) × (rest : List (List ℕ)) × (raw_lines all ≡ raw ∷ rest) × (ENDLESS_BYTES ≤ length raw)
+    (raw : List ℕ) × (rest : List (List ℕ)) × (raw_lines all ≡ raw ∷ rest) × (endless_bytes ≤ length raw)
 
 -- the reader took some bytes from its source, and holds them behind those that it held
 pub record Gathers (old new : Reading) : Type 0 where

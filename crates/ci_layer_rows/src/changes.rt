@@ -1,11 +1,11 @@
 //! What is pending, in order, and what is out in a batch.
 
-ghost use Rattle.std.specs.Prelude.{◌<◌, ◌≤◌, All, IfOk};
+ghost use Rattle.std.specs.Prelude.{◌<◌, All, IfOk};
 
+use crate::table::{Table, unmet};
 use ci_base::{PathText, Seq};
 use ci_change::{Batch, ChangeList, Docs, What};
 use std::alloc::Global;
-use std::process::Abort;
 use std::test::Fail;
 
 fn path(alloc: Global, text: &str) -> Result<PathText, Fail> {
@@ -24,118 +24,148 @@ fn noted(alloc: Global) -> Result<ChangeList, Fail>
     Ok(list)
 }
 
-fn numbers(alloc: Global, docs: &Docs) -> Result<Vec<u64>, Fail> {
-    let mut numbers = Vec::new(alloc);
-    for doc in docs.items() {
-        numbers.push(doc.1.0)?;
+// The pending notices, each with its number.
+fn pending(told: &mut String, list: &ChangeList) -> Result<(), Fail> {
+    for notice in list.pending()? {
+        let sign = if notice.what == What::Deleted {
+            "-"
+        } else {
+            "+"
+        };
+        write!(told, "{sign}{} {}|", notice.path.as_str(), notice.seq.0)?;
     }
-    Ok(numbers)
+    Ok(())
+}
+
+// Rows of paths and of the numbers that each was served under: the last served number, and what is
+// pending behind them.
+struct Served;
+
+impl Table for Served {
+    fn told(alloc: Global, given: &str) -> Result<String, Fail> {
+        let mut list = noted(alloc)?;
+        let mut told = String::new(alloc);
+        for row in given.split(';') {
+            let (name, seq) = row.split_once(' ').ok_or("a path")?;
+            let seq = seq.parse::<u64>().ok().ok_or("a number")?;
+            serve(alloc, &mut told, &mut list, name, seq)?;
+        }
+        pending(&mut told, &list)?;
+        Ok(told)
+    }
+}
+
+fn serve(
+    alloc: Global,
+    told: &mut String,
+    list: &mut ChangeList,
+    name: &str,
+    seq: u64,
+) -> Result<(), Fail> {
+    let path = path(alloc, name)?;
+    list.served(&path, Seq(seq))?;
+    write!(told, "{} ", list.served_of(&path).0)?;
+    Ok(())
 }
 
 #[test]
 fn the_latest_notices_are_pending_by_path(rt: HostRuntime) -> Result<(), Fail> {
-    let list = noted(rt.alloc())?;
-    let pending = list.pending()?;
-    let rows = [("/c.txt", 3), ("/d/a.txt", 4), ("/d/b.txt", 2)];
-    assert_eq!(rt; pending.len(), rows.len());
-    for (notice, (text, number)) in pending.iter().zip(rows) {
-        assert_eq!(rt; notice.path.as_str(), text);
-        assert_eq!(rt; notice.seq, Seq(number));
-        assert!(rt; notice.copy(rt.alloc())? == *notice);
-    }
+    // a served path is pending no more, its number only rises, and a path without notices is served
+    const ROWS: &str = "\
+/e 0 => 0 +/c.txt 3|+/d/a.txt 4|-/d/b.txt 2|
+/d/a.txt 3 => 3 +/c.txt 3|+/d/a.txt 4|-/d/b.txt 2|
+/d/a.txt 4 => 4 +/c.txt 3|-/d/b.txt 2|
+/d/a.txt 4;/d/a.txt 2 => 4 4 +/c.txt 3|-/d/b.txt 2|
+/d/a.txt 4;/d/a.txt 2;/d/a.txt 9 => 4 4 9 +/c.txt 3|-/d/b.txt 2|
+/e 6 => 6 +/c.txt 3|+/d/a.txt 4|-/d/b.txt 2|";
+    assert_eq!(rt; unmet::<Served>(rt.alloc(), ROWS)?.as_str(), "");
     Ok(())
 }
 
-// Takes a batch, which has to have the notices of these numbers.
-fn takes(
-    rt: &impl Abort,
-    list: &mut ChangeList,
-    number: u64,
-    max: usize,
-    wanted: &[u64],
-) -> Result<Batch, Fail>
-    requires { 1 ≤ max }
-{
-    let batch = list.take_batch(number, max)?;
-    assert_eq!(rt; batch.number, number);
-    assert_eq!(rt; batch.docs.items().len(), wanted.len());
-    for (doc, seq) in batch.docs.items().iter().zip(wanted) {
-        assert_eq!(rt; doc.1, Seq(*seq));
-    }
-    Ok(batch)
-}
-
-#[test]
-fn batches_take_the_first_free_ones(rt: HostRuntime) -> Result<(), Fail> {
-    let mut list = noted(rt.alloc())?;
-    takes(&rt, &mut list, 7, 1, &[3])?;
-    takes(&rt, &mut list, 8, 5, &[4])?;
-    takes(&rt, &mut list, 9, 5, &[])?;
-    Ok(())
-}
-
-#[test]
-fn a_batch_that_is_given_back_is_free_again(rt: HostRuntime) -> Result<(), Fail> {
-    let mut list = noted(rt.alloc())?;
-    let batch = takes(&rt, &mut list, 7, 1, &[3])?;
-    list.give_back(&batch);
-    let again = takes(&rt, &mut list, 8, 1, &[3])?;
-    assert_eq!(rt; again.copy(rt.alloc())?.docs.items().len(), 1);
-    Ok(())
-}
-
-// How many notices are pending once this number of the path was served.
-fn left_after(list: &mut ChangeList, path: &PathText, seq: u64) -> Result<usize, Fail> {
-    list.served(path, Seq(seq))?;
-    Ok(list.pending()?.len())
-}
-
-#[test]
-fn a_served_path_is_pending_no_more(rt: HostRuntime) -> Result<(), Fail> {
-    let mut list = noted(rt.alloc())?;
-    let path = path(rt.alloc(), "/d/a.txt")?;
-    for (seq, left) in [(3, 3), (4, 2), (2, 2), (9, 2)] {
-        assert_eq!(rt; left_after(&mut list, &path, seq)?, left, "{seq}");
-    }
-    assert_eq!(rt; list.served_of(&path), Seq(9));
-    Ok(())
+// What is pending where a path was served under 9 and then noted with the number 5.
+fn noted_late(alloc: Global) -> Result<String, Fail> {
+    let mut list = noted(alloc)?;
+    let path = path(alloc, "/d/a.txt")?;
+    list.served(&path, Seq(9))?;
+    list.note(&path, Seq(5), What::Changed)?;
+    let mut told = String::new(alloc);
+    pending(&mut told, &list)?;
+    Ok(told)
 }
 
 #[test]
 fn a_notice_below_a_served_number_is_not_pending(rt: HostRuntime) -> Result<(), Fail> {
-    let mut list = noted(rt.alloc())?;
-    let path = path(rt.alloc(), "/d/a.txt")?;
-    list.served(&path, Seq(9))?;
-    list.note(&path, Seq(5), What::Changed)?;
-    assert_eq!(rt; list.pending()?.len(), 2);
+    assert_eq!(rt; noted_late(rt.alloc())?.as_str(), "+/c.txt 3|-/d/b.txt 2|");
     Ok(())
 }
 
-#[test]
-fn a_path_without_notices_is_served(rt: HostRuntime) -> Result<(), Fail> {
-    let mut list = noted(rt.alloc())?;
-    let unseen = path(rt.alloc(), "/e")?;
-    assert_eq!(rt; list.served_of(&unseen), Seq(0));
-    assert_eq!(rt; left_after(&mut list, &unseen, 6)?, 3);
-    assert_eq!(rt; list.served_of(&unseen), Seq(6));
+// Rows of how many notices each batch may have at most, and where a sign is behind, is given back.
+struct Taken;
+
+impl Table for Taken {
+    fn told(alloc: Global, given: &str) -> Result<String, Fail> {
+        let mut list = noted(alloc)?;
+        let mut told = String::new(alloc);
+        for row in given.split(' ') {
+            let most = row
+                .trim_end_matches('!')
+                .parse::<usize>()
+                .ok()
+                .ok_or("a number")?;
+            take(&mut told, &mut list, most, row.ends_with('!'))?;
+        }
+        Ok(told)
+    }
+}
+
+fn take(
+    told: &mut String,
+    list: &mut ChangeList,
+    most: usize,
+    gives_back: bool,
+) -> Result<(), Fail> {
+    let batch = list.take_batch(7, most.max(1))?;
+    tell_batch(told, &batch)?;
+    if gives_back {
+        list.give_back(&batch);
+    }
     Ok(())
+}
+
+fn tell_batch(told: &mut String, batch: &Batch) -> Result<(), Fail> {
+    write!(told, "{}:", batch.number)?;
+    for doc in batch.docs.items() {
+        write!(told, " {}", doc.1.0)?;
+    }
+    Ok(told.push('|')?)
+}
+
+#[test]
+fn batches_take_the_first_free_ones(rt: HostRuntime) -> Result<(), Fail> {
+    const ROWS: &str = "\
+1 5 5 => 7: 3|7: 4|7:|
+1! 1! => 7: 3|7: 3|
+16 => 7: 3 4|";
+    assert_eq!(rt; unmet::<Taken>(rt.alloc(), ROWS)?.as_str(), "");
+    Ok(())
+}
+
+// The documents of a batch, from a copy, and which of the paths it has.
+fn documents(alloc: Global) -> Result<String, Fail> {
+    let mut docs = Docs::new(alloc);
+    docs.add((path(alloc, "/b")?, Seq(2)))?;
+    docs.add((path(alloc, "/a")?, Seq(1)))?;
+    let docs = Docs::from(docs.copy(alloc)?.into_vec());
+    let batch = Batch { number: 1, docs }.copy(alloc)?;
+    let mut told = String::new(alloc);
+    tell_batch(&mut told, &batch)?;
+    let (held, other) = (path(alloc, "/a")?, path(alloc, "/c")?);
+    write!(told, " {} {}", batch.has(&held), batch.has(&other))?;
+    Ok(told)
 }
 
 #[test]
 fn documents_of_a_batch_are_kept_in_order(rt: HostRuntime) -> Result<(), Fail> {
-    let alloc = rt.alloc();
-    let mut docs = Docs::new(alloc);
-    docs.add((path(alloc, "/b")?, Seq(2)))?;
-    docs.add((path(alloc, "/a")?, Seq(1)))?;
-    assert_eq!(rt;
-        numbers(alloc, &docs.copy(alloc)?)?.as_slice(),
-        [2, 1].as_slice()
-    );
-    let batch = Batch {
-        number: 1,
-        docs: Docs::from(docs.into_vec()),
-    };
-    assert!(rt; batch.has(&path(alloc, "/a")?));
-    assert!(rt; !batch.has(&path(alloc, "/c")?));
+    assert_eq!(rt; documents(rt.alloc())?.as_str(), "1: 2 1| true false");
     Ok(())
 }

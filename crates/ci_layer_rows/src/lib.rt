@@ -6,11 +6,15 @@ mod base;
 #[cfg(test)]
 mod changes;
 #[cfg(test)]
+mod copies;
+#[cfg(test)]
 mod lines;
 #[cfg(test)]
 mod noise;
 #[cfg(test)]
 mod paths;
+#[cfg(test)]
+mod table;
 #[cfg(test)]
 mod varints;
 #[cfg(test)]

@@ -1,99 +1,172 @@
-//! Lines of a source, in any cutting.
+//! Lines of a source, in any cutting; those that are as long as a text may be, and longer ones.
 
+use crate::table::{Table, unmet};
 use ci_base::Text8;
 use ci_io::{
-    Failed, Line, LineReader, MemorySink, MemorySource, ReadFault, Source, SureMemorySink,
-    SureMemorySource, put_all,
+    Line, LineReader, MemorySink, MemorySource, Source, SureMemorySink, SureMemorySource, put_all,
 };
 use std::alloc::Global;
 use std::test::Fail;
 
-// The lines of some bytes, each with a bar behind it.
-fn barred(alloc: Global, bytes: &[u8]) -> Result<Vec<u8>, Fail> {
-    let source = SureMemorySource::new(alloc, Text8::of(alloc, bytes)?);
+// What five calls read of a source that fails at these calls, and how often it was called. Of a
+// text that isn't short its length is told.
+fn read(alloc: Global, bytes: Vec<u8>, fails: &[u64]) -> Result<(String, u64), Fail> {
+    let source = MemorySource::new(alloc, Text8::from(bytes), Vec::from_slice(alloc, fails)?);
     let mut reader = LineReader::new(alloc, source).ok().ok_or("no memory")?;
-    let mut lines = Vec::new(alloc);
-    for _ in 0..bytes.len() + 1 {
+    let mut told = String::new(alloc);
+    for _ in 0..5 {
         match reader.read_line(alloc) {
-            Ok(Line::Text(text)) => {
-                lines.extend_from_slice(text.items())?;
-                lines.push(b'|')?;
-            }
-            _ => break,
+            Ok(line) => tell(alloc, &mut told, &line)?,
+            Err(_) => told.push_str("failed ")?,
         }
     }
-    Ok(lines)
+    Ok((told, reader.into_source().calls()))
+}
+
+// Tells a line and its copy.
+fn tell(alloc: Global, told: &mut String, line: &Line) -> Result<(), Fail> {
+    if line.copy(alloc)? != *line {
+        return Err("a copy equals its line".into());
+    }
+    match line {
+        Line::Text(text) => tell_text(told, text.items()),
+        Line::Long => Ok(told.push_str("long ")?),
+        Line::End => Ok(told.push_str("end ")?),
+    }
+}
+
+fn tell_text(told: &mut String, bytes: &[u8]) -> Result<(), Fail> {
+    if bytes.len() < 10 {
+        let text = std::str::from_utf8(bytes).ok().ok_or("a text")?;
+        write!(told, "'{text}' ")?;
+    } else {
+        write!(told, "{} ", bytes.len())?;
+    }
+    Ok(())
+}
+
+// Rows of two calls that fail, of how many letters a source begins with, and of what follows them, a
+// bar for a line feed.
+struct Lines;
+
+impl Table for Lines {
+    fn told(alloc: Global, given: &str) -> Result<String, Fail> {
+        let (fails, rest) = given.split_once(": ").ok_or("the calls that fail")?;
+        let (count, then) = rest.split_once(' ').ok_or("a count")?;
+        let count = count.parse::<usize>().ok().ok_or("a number")?;
+        let (first, second) = fails.split_once(' ').ok_or("two calls")?;
+        let first = first.parse::<u64>().ok().ok_or("a number")?;
+        let second = second.parse::<u64>().ok().ok_or("a number")?;
+        let (told, _) = read(alloc, letters(alloc, count, then)?, &[first, second])?;
+        Ok(told)
+    }
+}
+
+// So many letters, and then others.
+fn letters(alloc: Global, count: usize, then: &str) -> Result<Vec<u8>, Fail> {
+    let mut bytes = Vec::from_elem(alloc, b'x', count)?;
+    for byte in then.bytes() {
+        bytes.push(if byte == b'|' { b'\n' } else { byte })?;
+    }
+    Ok(bytes)
 }
 
 #[test]
 fn lines_end_at_feeds_and_at_the_end(rt: HostRuntime) -> Result<(), Fail> {
-    let alloc = rt.alloc();
-    let rows = [
-        ("", ""),
-        ("one\r\n\ntwo\r\r\nlast", "one||two\r|last|"),
-        ("a\n\rb\r", "a|\rb|"),
-        ("\n", "|"),
-        ("x\n", "x|"),
-    ];
-    for (bytes, wanted) in rows {
-        let lines = barred(alloc, bytes.as_bytes())?;
-        assert_eq!(rt; lines.as_slice(), wanted.as_bytes(), "{bytes:?}");
+    // a failed read loses nothing
+    const ROWS: &str = "\
+9 9: 0  => end end end end end\x20
+9 9: 0 | => '' end end end end\x20
+9 9: 1 | => 'x' end end end end\x20
+9 9: 0 a|\rb\r => 'a' '\rb' end end end\x20
+9 9: 0 one\r||two\r\r|last => 'one' '' 'two\r' 'last' end\x20
+0 2: 0 a|b => failed 'a' failed 'b' end\x20
+1 9: 0 a|b => 'a' failed 'b' end end\x20";
+    assert_eq!(rt; unmet::<Lines>(rt.alloc(), ROWS)?.as_str(), "");
+    Ok(())
+}
+
+#[test]
+fn a_line_is_long_above_its_limit(rt: HostRuntime) -> Result<(), Fail> {
+    // the next line stands behind a long one
+    const ROWS: &str = "\
+9 9: 65536  => 65536 end end end end\x20
+9 9: 65536 | => 65536 end end end end\x20
+9 9: 65535 \r => 65535 end end end end\x20
+9 9: 65535 \r| => 65535 end end end end\x20
+9 9: 65536 \r => long end end end end\x20
+9 9: 65536 \r| => long end end end end\x20
+9 9: 65537  => long end end end end\x20
+9 9: 65537 | => long end end end end\x20
+9 9: 196608 | => long end end end end\x20
+9 9: 65537 |red\r||fox => long 'red' '' 'fox' end\x20
+9 9: 131073 |red\r||fox => long 'red' '' 'fox' end\x20
+9 9: 200000 |red\r||fox => long 'red' '' 'fox' end\x20";
+    assert_eq!(rt; unmet::<Lines>(rt.alloc(), ROWS)?.as_str(), "");
+    Ok(())
+}
+
+#[test]
+fn a_source_is_asked_no_more_than_needed(rt: HostRuntime) -> Result<(), Fail> {
+    // the end is told once, though asked for again; a read that fails within a long line is told
+    let (_, calls) = read(rt.alloc(), Vec::from_slice(rt.alloc(), b"a\nb")?, &[2])?;
+    assert_eq!(rt; calls, 2);
+    let (told, _) = read(rt.alloc(), letters(rt.alloc(), 200_000, "|red")?, &[2])?;
+    assert!(rt; told.as_str().starts_with("failed "));
+    Ok(())
+}
+
+// Which of the pieces a sink takes that takes two bytes a call, has room for eight, and fails at
+// its third call; and then what it has.
+fn sunk(alloc: Global, pieces: &[&str]) -> Result<String, Fail> {
+    let mut sink = MemorySink::new(alloc, 2, Vec::from_slice(alloc, &[2u64])?, 8)?;
+    let mut told = String::new(alloc);
+    for piece in pieces {
+        let sign = if put_all(&mut sink, piece.as_bytes()).is_ok() {
+            '+'
+        } else {
+            '-'
+        };
+        told.push(sign)?;
     }
-    Ok(())
-}
-
-#[test]
-fn a_failed_read_loses_nothing(rt: HostRuntime) -> Result<(), Fail> {
-    let alloc = rt.alloc();
-    let source = MemorySource::new(alloc, Text8::of(alloc, b"a\nb")?, vec![in alloc; 0, 2]?);
-    let mut reader = LineReader::new(alloc, source).ok().ok_or("no memory")?;
-    assert!(rt; matches!(reader.read_line(alloc), Err(ReadFault::Failed)));
-    assert!(rt; matches!(reader.read_line(alloc), Ok(Line::Text(_))));
-    assert!(rt; matches!(reader.read_line(alloc), Err(ReadFault::Failed)));
-    assert!(rt; matches!(reader.read_line(alloc), Ok(Line::Text(_))));
-    assert!(rt; matches!(reader.read_line(alloc), Ok(Line::End)));
-    Ok(())
-}
-
-#[test]
-fn the_end_is_told_once(rt: HostRuntime) -> Result<(), Fail> {
-    let alloc = rt.alloc();
-    let source = MemorySource::new(alloc, Text8::of(alloc, b"a\nb")?, vec![in alloc; 2]?);
-    let mut reader = LineReader::new(alloc, source).ok().ok_or("no memory")?;
-    assert!(rt; matches!(reader.read_line(alloc), Ok(Line::Text(_))));
-    assert!(rt; matches!(reader.read_line(alloc), Ok(Line::Text(_))));
-    assert!(rt; matches!(reader.read_line(alloc), Ok(Line::End)));
-    assert!(rt; matches!(reader.read_line(alloc), Ok(Line::End)));
-    assert_eq!(rt; reader.into_source().calls(), 2);
-    Ok(())
+    let copy = sink.copy(alloc)?;
+    told.push_str(std::str::from_utf8(copy.bytes()).ok().ok_or("a text")?)?;
+    Ok(told)
 }
 
 #[test]
 fn a_sink_takes_what_fits(rt: HostRuntime) -> Result<(), Fail> {
-    let alloc = rt.alloc();
-    let mut sink = MemorySink::new(alloc, 2, vec![in alloc; 2]?, 8)?;
-    assert!(rt; put_all(&mut sink, b"abcd").is_ok());
-    assert!(rt; put_all(&mut sink, b"ef").is_err());
-    assert!(rt; put_all(&mut sink, b"efghij").is_err());
-    assert_eq!(rt; sink.bytes(), b"abcdefgh".as_slice());
-    assert_eq!(rt; sink.copy(alloc)?.bytes(), b"abcdefgh".as_slice());
+    let told = sunk(rt.alloc(), &["abcd", "ef", "efghij"])?;
+    assert_eq!(rt; told.as_str(), "+--abcdefgh");
     Ok(())
+}
+
+// How many bytes the copy of a source gives that fails at these calls. None where it fails.
+fn given(alloc: Global, fails: &[u64]) -> Result<Option<usize>, Fail> {
+    let bytes = Text8::of(alloc, b"fox")?;
+    let source = MemorySource::new(alloc, bytes, Vec::from_slice(alloc, fails)?);
+    let mut out = [0; 8];
+    Ok(source.copy(alloc)?.take(&mut out).ok())
+}
+
+fn given_surely(alloc: Global) -> Result<Option<usize>, Fail> {
+    let source = SureMemorySource::new(alloc, Text8::of(alloc, b"fox")?);
+    let mut out = [0; 8];
+    Ok(source.copy(alloc)?.take(&mut out).ok())
+}
+
+fn taken_surely(alloc: Global) -> Result<usize, Fail> {
+    let mut sink = SureMemorySink::new(alloc, 4, 8)?;
+    let taken = put_all(&mut sink, b"abcd").is_ok();
+    let copy = sink.copy(alloc)?;
+    Ok(if taken { copy.bytes().len() } else { 0 })
 }
 
 #[test]
 fn copies_give_the_same_bytes(rt: HostRuntime) -> Result<(), Fail> {
-    let alloc = rt.alloc();
-    let text = Line::Text(Text8::of(alloc, b"red")?);
-    assert!(rt; text.copy(alloc)? == text);
-
-    let mut out = [0; 8];
-    let source = SureMemorySource::new(alloc, Text8::of(alloc, b"fox")?);
-    assert!(rt; source.copy(alloc)?.take(&mut out) == Ok(3));
-    let source = MemorySource::new(alloc, Text8::of(alloc, b"fox")?, vec![in alloc; 0]?);
-    assert!(rt; source.copy(alloc)?.take(&mut out) == Err(Failed));
-
-    let mut sink = SureMemorySink::new(alloc, 4, 8)?;
-    assert!(rt; put_all(&mut sink, b"abcd").is_ok());
-    assert_eq!(rt; sink.copy(alloc)?.bytes(), b"abcd".as_slice());
+    assert_eq!(rt; given(rt.alloc(), &[])?, Some(3));
+    assert_eq!(rt; given(rt.alloc(), &[0])?, None);
+    assert_eq!(rt; given_surely(rt.alloc())?, Some(3));
+    assert_eq!(rt; taken_surely(rt.alloc())?, 4);
     Ok(())
 }

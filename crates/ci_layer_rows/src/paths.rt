@@ -1,7 +1,8 @@
 //! Prefixes that hold paths, and the numbers of paths.
 
-use ci_base::{DocNo, PathFault, PathText};
-use ci_paths::{AdoptFault, NumberFault, Numbers, Prefix};
+use crate::table::{Table, unmet};
+use ci_base::{DocNo, PathText};
+use ci_paths::{Numbers, Prefix};
 use std::alloc::Global;
 use std::test::Fail;
 
@@ -9,108 +10,120 @@ fn path(alloc: Global, text: &str) -> Result<PathText, Fail> {
     Ok(PathText::read(alloc, text.as_bytes())?)
 }
 
+// Rows of a prefix and a path: whether the copy of the prefix holds the path.
+struct Holds;
+
+impl Table for Holds {
+    fn told(alloc: Global, given: &str) -> Result<String, Fail> {
+        let (prefix, held) = given.split_once("; ").ok_or("a path")?;
+        let Ok(prefix) = Prefix::read(alloc, prefix) else {
+            return Ok(String::from_str(alloc, "no prefix")?);
+        };
+        let holds = prefix.copy(alloc)?.holds(&path(alloc, held)?);
+        Ok(format!(in alloc; "{holds}")?)
+    }
+}
+
 #[test]
 fn prefixes_hold_what_stands_under_them(rt: HostRuntime) -> Result<(), Fail> {
-    let alloc = rt.alloc();
-    let rows = [
-        ("/", "/d", true),
-        ("/", "/d/a.txt", true),
-        ("/d", "/d", true),
-        ("/d", "/d/a.txt", true),
-        ("/d/a.txt", "/d/a.txt", true),
-        ("/d", "/data/a.txt", false),
-        ("/d/a.txt", "/d", false),
-        ("/d", "/e/d", false),
-        ("/d", "/D", false),
-    ];
-    for (prefix, held, wanted) in rows {
-        let prefix = Prefix::read(alloc, prefix)?;
-        assert_eq!(rt; prefix.holds(&path(alloc, held)?), wanted, "{held}");
-        assert!(rt; prefix.copy(alloc)? == prefix);
+    const ROWS: &str = "\
+/; /d => true
+/; /d/a.txt => true
+/d; /d => true
+/d; /d/a.txt => true
+/d/a.txt; /d/a.txt => true
+/d; /data/a.txt => false
+/d/a.txt; /d => false
+/d; /e/d => false
+/d; /D => false
+; /d => no prefix
+d; /d => no prefix
+//; /d => no prefix
+/d/; /d => no prefix
+/d/../e; /d => no prefix
+/.; /d => no prefix";
+    assert_eq!(rt; unmet::<Holds>(rt.alloc(), ROWS)?.as_str(), "");
+    Ok(())
+}
+
+// A number is taken over, where one is given, and else asked for.
+fn give(numbers: &mut Numbers, doc: Option<u32>, path: &PathText) -> Option<u32> {
+    match doc {
+        Some(doc) if doc < 262_144 => numbers.adopt(DocNo(doc), path).ok().map(|_| doc),
+        Some(_) => None,
+        None => numbers.number(path).ok().map(|given| given.0),
+    }
+}
+
+// Rows of a limit and of paths, each perhaps behind a number that is taken over: the numbers that
+// they get, `-` where one is refused; then how many paths have one, and what has the number 2.
+struct Given;
+
+impl Table for Given {
+    fn told(alloc: Global, given: &str) -> Result<String, Fail> {
+        let (limit, paths) = given.split_once(": ").ok_or("a limit")?;
+        let limit = limit.parse::<u32>().ok().ok_or("a number")?;
+        let mut numbers = Numbers::new(alloc, limit);
+        let mut told = String::new(alloc);
+        for text in paths.split(' ') {
+            tell_given(alloc, &mut told, &mut numbers, text)?;
+        }
+        tell_numbers(alloc, &mut told, &numbers)?;
+        Ok(told)
+    }
+}
+
+fn tell_given(
+    alloc: Global,
+    told: &mut String,
+    numbers: &mut Numbers,
+    text: &str,
+) -> Result<(), Fail> {
+    let (doc, text) = text.split_once('=').unwrap_or(("", text));
+    match give(numbers, doc.parse::<u32>().ok(), &path(alloc, text)?) {
+        Some(number) => write!(told, "{number} ")?,
+        None => told.push_str("- ")?,
     }
     Ok(())
 }
 
+fn tell_numbers(alloc: Global, told: &mut String, numbers: &Numbers) -> Result<(), Fail> {
+    let second = numbers.path(DocNo(2)).map_or("none", |kept| kept.as_str());
+    let third = numbers.find(&path(alloc, "/c")?).map(|doc| doc.0);
+    write!(told, "{} {third:?} {second}", numbers.len())?;
+    Ok(())
+}
+
 #[test]
-fn other_texts_are_no_prefixes(rt: HostRuntime) -> Result<(), Fail> {
-    let alloc = rt.alloc();
-    for text in ["", "d", "//", "/d/", "/d/../e", "/."] {
-        assert!(rt;
-            matches!(Prefix::read(alloc, text), Err(PathFault::BadPath)),
-            "{text}"
+fn paths_get_numbers(rt: HostRuntime) -> Result<(), Fail> {
+    // new paths fill the gaps, a limit stops new paths alone, and what is taken clashes
+    const ROWS: &str = "\
+10: 1=/b 3=/e /a /c /d /a /b /e => 1 3 0 2 4 0 1 3 5 Some(2) /c
+2: /a /b /c /a => 0 1 - 0 2 None none
+0: 262143=/a 0=/b 0=/b 0=/a 1=/b 0=/c 1=/c => 262143 0 0 - - - 1 3 Some(1) none";
+    assert_eq!(rt; unmet::<Given>(rt.alloc(), ROWS)?.as_str(), "");
+    Ok(())
+}
+
+// What two paths get where there may be one, then three, and then none.
+fn limited(alloc: Global) -> Result<String, Fail> {
+    let (first, second) = (path(alloc, "/a")?, path(alloc, "/b")?);
+    let mut numbers = Numbers::new(alloc, 1);
+    let mut told = String::new(alloc);
+    for limit in [1, 3, 0] {
+        numbers.limit_to(limit);
+        let (one, other) = (
+            give(&mut numbers, None, &first),
+            give(&mut numbers, None, &second),
         );
+        write!(told, "{one:?} {other:?} ")?;
     }
-    assert!(rt; Prefix::read(alloc, "/")? == Prefix::Root);
-    Ok(())
+    Ok(told)
 }
 
 #[test]
-fn new_paths_fill_the_gaps(rt: HostRuntime) -> Result<(), Fail> {
-    let alloc = rt.alloc();
-    let mut numbers = Numbers::new(alloc, 10);
-    assert!(rt; numbers.adopt(DocNo(1), &path(alloc, "/b")?) == Ok(()));
-    assert!(rt; numbers.adopt(DocNo(3), &path(alloc, "/e")?) == Ok(()));
-    for (text, wanted) in [
-        ("/a", 0),
-        ("/c", 2),
-        ("/d", 4),
-        ("/a", 0),
-        ("/b", 1),
-        ("/e", 3),
-    ] {
-        assert!(rt;
-            numbers.number(&path(alloc, text)?) == Ok(DocNo(wanted)),
-            "{text}"
-        );
-    }
-    assert_eq!(rt; numbers.len(), 5);
-    assert!(rt; numbers.find(&path(alloc, "/d")?) == Some(DocNo(4)));
-    assert!(rt; numbers.find(&path(alloc, "/f")?).is_none());
-    assert!(rt;
-        numbers
-            .path(DocNo(2))
-            .is_some_and(|kept| kept.as_str() == "/c")
-    );
-    assert!(rt; numbers.path(DocNo(5)).is_none());
-    Ok(())
-}
-
-#[test]
-fn a_limit_stops_new_paths_alone(rt: HostRuntime) -> Result<(), Fail> {
-    let alloc = rt.alloc();
-    let mut numbers = Numbers::new(alloc, 2);
-    let full = Err(NumberFault::TooManyDocuments);
-    assert!(rt; numbers.number(&path(alloc, "/a")?) == Ok(DocNo(0)));
-    assert!(rt; numbers.number(&path(alloc, "/b")?) == Ok(DocNo(1)));
-    assert!(rt; numbers.number(&path(alloc, "/c")?) == full);
-    numbers.limit_to(3);
-    assert!(rt; numbers.number(&path(alloc, "/c")?) == Ok(DocNo(2)));
-    numbers.limit_to(0);
-    assert!(rt; numbers.number(&path(alloc, "/b")?) == Ok(DocNo(1)));
-    assert!(rt; numbers.number(&path(alloc, "/d")?) == full);
-    assert_eq!(rt; numbers.len(), 3);
-    Ok(())
-}
-
-#[test]
-fn a_taken_number_or_path_clashes(rt: HostRuntime) -> Result<(), Fail> {
-    let alloc = rt.alloc();
-    let mut numbers = Numbers::new(alloc, 0);
-    let rows = [
-        (262_143, "/a", Ok(())),
-        (0, "/b", Ok(())),
-        (0, "/b", Ok(())),
-        (0, "/a", Err(AdoptFault::Clash)),
-        (1, "/b", Err(AdoptFault::Clash)),
-        (0, "/c", Err(AdoptFault::Clash)),
-        (1, "/c", Ok(())),
-    ];
-    for (doc, text, wanted) in rows {
-        assert!(rt;
-            numbers.adopt(DocNo(doc), &path(alloc, text)?) == wanted,
-            "{doc} {text}"
-        );
-    }
-    assert_eq!(rt; numbers.len(), 3);
+fn a_new_limit_is_for_new_paths(rt: HostRuntime) -> Result<(), Fail> {
+    let wanted = "Some(0) None Some(0) Some(1) Some(0) Some(1) ";
+    assert_eq!(rt; limited(rt.alloc())?.as_str(), wanted);
     Ok(())
 }

@@ -1,12 +1,13 @@
 //! The words of texts. The expected words were worked out by hand, by the Unicode rules for word boundaries
 //! and for case folding.
 
+use crate::table::{Table, unmet};
 use ci_words::Words;
 use std::alloc::Global;
 use std::test::Fail;
 
 // The words of a text, each with a bar behind it.
-fn barred(alloc: Global, text: &str) -> Result<String, Fail> {
+fn words_of(alloc: Global, text: &str) -> Result<String, Fail> {
     let mut words = String::new(alloc);
     for word in Words::of(alloc, text)?.iter() {
         words.push_str(word.as_str())?;
@@ -15,36 +16,40 @@ fn barred(alloc: Global, text: &str) -> Result<String, Fail> {
     Ok(words)
 }
 
+// Rows of texts.
+struct Barred;
+
+impl Table for Barred {
+    fn told(alloc: Global, given: &str) -> Result<String, Fail> {
+        words_of(alloc, given)
+    }
+}
+
 #[test]
 fn texts_have_these_words(rt: HostRuntime) -> Result<(), Fail> {
-    let rows = [
-        ("", ""),
-        (" ,.!", ""),
-        ("Red fox", "red|fox|"),
-        ("can't stop", "can't|stop|"),
-        ("STRASSE straße", "strasse|strasse|"),
-        ("Éclair ÀÉ", "éclair|àé|"),
-        ("Привет, МИР", "привет|мир|"),
-        ("3.14 x_y", "3.14|x_y|"),
-    ];
-    for (text, wanted) in rows {
-        let words = barred(rt.alloc(), text)?;
-        assert_eq!(rt; words.as_str(), wanted, "{text:?}");
-    }
+    const ROWS: &str = "\
+\x20=> \n\x20,.! => \nRed fox => red|fox|
+can't stop => can't|stop|
+STRASSE straße => strasse|strasse|
+Éclair ÀÉ => éclair|àé|
+Привет, МИР => привет|мир|
+3.14 x_y => 3.14|x_y|";
+    assert_eq!(rt; unmet::<Barred>(rt.alloc(), ROWS)?.as_str(), "");
     Ok(())
+}
+
+// How many bytes the words have of a text that begins with a letter of one byte and goes on with so
+// many of two, each with a bar behind it.
+fn cut(alloc: Global, letters: usize) -> Result<usize, Fail> {
+    let mut text = String::from_str(alloc, "a")?;
+    for _ in 0..letters {
+        text.push('é')?;
+    }
+    Ok(words_of(alloc, text.as_str())?.len())
 }
 
 #[test]
 fn a_long_word_is_cut_at_a_character(rt: HostRuntime) -> Result<(), Fail> {
-    let alloc = rt.alloc();
-    let mut text = String::from_str(alloc, "a")?;
-    for _ in 0..70 {
-        text.push('é')?;
-    }
-    let words = Words::of(alloc, text.as_str())?;
-    assert_eq!(rt; words.len(), 1);
-    for word in words.iter() {
-        assert_eq!(rt; word.as_str().len(), 127);
-    }
+    assert_eq!(rt; cut(rt.alloc(), 70)?, 128);
     Ok(())
 }

@@ -1,4 +1,5 @@
 pub mod PiecesLemmas
+pub mod RunsOutLemmas
 pub mod DocumentLemmas
 pub mod LineLemmas
 pub mod TalkLemmas

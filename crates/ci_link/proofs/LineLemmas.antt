@@ -36,19 +36,19 @@ all_join : (x y : Talk) → AllByRecursion (λ e. IsAnswer e.1) x → AllByRecur
 all_join [] y p q = q
 all_join (e ∷ x) y p q = (p.0, all_join x y p.1 q)
 
-calls_join : (x y : Talk) → calls_bytes (x ++ y) ≡ calls_bytes x ++ calls_bytes y
+pub calls_join : (x y : Talk) → calls_bytes (x ++ y) ≡ calls_bytes x ++ calls_bytes y
 calls_join x y = flat_map-append (λ e. frame_spelling (Call e.0)) x y
 
-answers_join : (x y : Talk) → answers_bytes (x ++ y) ≡ answers_bytes x ++ answers_bytes y
+pub answers_join : (x y : Talk) → answers_bytes (x ++ y) ≡ answers_bytes x ++ answers_bytes y
 answers_join x y = flat_map-append (λ e. frame_spelling (Answer e.1)) x y
 
 -- what was read before, and then what was read of the bytes that follow
-read_join : (old received mid more new : List ℕ) (x y : List ℕ) → old ++ received ≡ x ++ mid → mid ++ more ≡ y ++ new
+pub read_join : (old received mid more new : List ℕ) (x y : List ℕ) → old ++ received ≡ x ++ mid → mid ++ more ≡ y ++ new
     → old ++ (received ++ more) ≡ (x ++ y) ++ new
 read_join old received mid more new x y p q =
     sym (append_assoc old received more) ∙ ap (λ l. l ++ more) p ∙ append_assoc x mid more ∙ ap (λ l. x ++ l) q ∙ sym (append_assoc x y new)
 
-Appends-to : (a b : Option (List ℕ)) (x y : List ℕ) → x ≡ y → Appends a b x → Appends a b y
+pub Appends-to : (a b : Option (List ℕ)) (x y : List ℕ) → x ≡ y → Appends a b x → Appends a b y
 Appends-to a b x y e p = let P : List ℕ → Type 0 = λ l. Appends a b l in subst P e p
 
 -- exchanges, and then others

@@ -4,4 +4,6 @@ pub mod Line
 pub mod Talking
 pub mod Document
 pub mod Memory
+pub mod Chain
 pub mod Records
+pub mod Program

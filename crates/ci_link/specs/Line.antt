@@ -1,5 +1,5 @@
 -- What goes over the pipe to a daemon.
-use Rattle.std.specs.Prelude.{◌≡◌, ◌<◌, ◌⊎◌, ℕ, Bool, false, List, ◌++◌, Option, IfSome, length}
+use Rattle.std.specs.Prelude.{◌≡◌, ◌<◌, ◌⊎◌, ℕ, Bool, false, List, [], ◌++◌, Option, IfSome, length}
 use Rattle.std.specs.List.{AllByRecursion, flat_map}
 use Rattle.std.specs.Io.KnownBytes.{Appends}
 use Rattle.ci_io.specs.Causes.{Rose}
@@ -114,3 +114,31 @@ pub record Unanswered (old new : Speaking) (call : Asked) : Type 0 where
   pub part : List ℕ
   pub sent : Appends old.sent new.sent part
   pub cause : (talk : Talk) → Cause old new talk call part (old.fed.bytes ++ received)
+
+-- for want of memory a call got no answer: it was wholly sent, or nothing of it, and no call on the link failed
+pub record RunsShort (old new : Speaking) (call : Asked) : Type 0 where
+  pub received : List ℕ
+  pub given : Appends old.given new.given received
+  pub part : List ℕ
+  pub sent : Appends old.sent new.sent part
+  pub whole : (part ≡ []) ⊎ (part ≡ frame_spelling (Call call))
+  pub faults : new.faults ≡ old.faults
+
+-- these exchanges were had, of earlier documents and then of this one, and memory ran out at the next call: it was wholly
+-- sent, or nothing of it, and no call on the link failed
+pub record RunsOut (old new : Speaking) (earlier talk : Talk) (call : Asked) : Type 0 where
+  pub received : List ℕ
+  pub given : Appends old.given new.given received
+  pub rest : List ℕ
+  pub read : old.fed.bytes ++ received ≡ answers_bytes (earlier ++ talk) ++ rest
+  pub part : List ℕ
+  pub sent : Appends old.sent new.sent (calls_bytes (earlier ++ talk) ++ part)
+  pub whole : (part ≡ []) ⊎ (part ≡ frame_spelling (Call call))
+  pub faults : new.faults ≡ old.faults
+
+-- the daemon gave some bytes, and nothing else happened on the link
+pub record GivesSome (old new : Speaking) : Type 0 where
+  pub received : List ℕ
+  pub given : Appends old.given new.given received
+  pub sent : new.sent ≡ old.sent
+  pub faults : new.faults ≡ old.faults

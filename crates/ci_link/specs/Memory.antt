@@ -1,5 +1,5 @@
 -- Links in memory, as their contracts see them.
-use Rattle.std.specs.Prelude.{◌≡◌, ℕ, Bool, List, []}
+use Rattle.std.specs.Prelude.{◌≡◌, ℕ, List, [], ◌∷◌, length, nat_lt}
 use Rattle.ci_link.specs.declared.record.LinkRecord.{LinkRecord}
 
 -- a link without a list of calls that are to fail: the bytes received and those still to come, the bytes sent, the most
@@ -29,15 +29,13 @@ pub record IsUnused (link : LinkState) : Type 0 where
   pub no_fault : link.faults ≡ 0
 
 -- a spawner: the links that it has left, the numbers of the starts that are to fail, counted from 0, how many starts
--- were made and how many failed, how many links are out, the records of those given back, and whether they are told
+-- were made and how many failed, and the records of the links given back
 pub record SpawnerState : Type 0 where
   pub links : List LinkState
   pub fails : List ℕ
   pub calls : ℕ
   pub faults : ℕ
-  pub out : ℕ
   pub records : List LinkRecord
-  pub tells : Bool
 
 -- the same of the forms without a list of calls that are to fail
 pub record IsSureUnused (link : SureLinkState) : Type 0 where
@@ -45,13 +43,20 @@ pub record IsSureUnused (link : SureLinkState) : Type 0 where
   pub none_given : link.given ≡ []
   pub no_fault : link.faults ≡ 0
 
--- no link was left, and this one has ended
-pub record HasEnded (links : List SureLinkState) (link : SureLinkState) : Type 0 where
-  pub none_left : links ≡ []
-  pub nothing : link.left ≡ []
-
 pub record SureSpawnerState : Type 0 where
   pub links : List SureLinkState
-  pub out : ℕ
   pub records : List LinkRecord
-  pub tells : Bool
+
+-- a link to a daemon that has ended. 2,048 bytes may still be sent, so that the Init of each path goes out.
+abbrev pub ended : SureLinkState
+ended = record { given = []; left = []; sent = []; room = 2048; faults = 0 }
+
+-- the links that are still given: where none is left, one that has ended
+abbrev pub or_ended : List SureLinkState → List SureLinkState
+or_ended [] = ended ∷ []
+or_ended (link ∷ links) = link ∷ links
+
+-- what is told of a link that took, gave and has left these bytes, and failed so often
+abbrev pub entry_of : List ℕ → List ℕ → List ℕ → ℕ → LinkRecord
+entry_of sent given left faults =
+    record { sent = sent; given = given; rose = nat_lt 0 faults; more = nat_lt 0 (length left) }

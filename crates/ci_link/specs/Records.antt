@@ -1,20 +1,17 @@
 -- What a spawner tells of the links that were given back to it.
 use Rattle.ci_link.specs.declared.record.LinkRecord.{LinkRecord}
-use Rattle.std.specs.Prelude.{true, false, ◌≡◌, ℕ, Bool, List, [], ◌∷◌, ◌++◌, Option, Some, None, ⊤, IfSome, nat_lt}
+use Rattle.std.specs.Prelude.{◌≡◌, ℕ, Bool, List, [], ◌∷◌, ◌++◌, Option, Some, None, IfSome, IsSome, nat_lt}
 
--- the record is that of a link of this state
-pub record IsRecord (entry : LinkRecord) (sent given : Option (List ℕ)) (more : Option Bool) (faults : ℕ) : Type 0 where
-  pub was_sent : sent ≡ Some entry.sent
-  pub was_given : given ≡ Some entry.given
-  pub still_to_come : more ≡ Some entry.more
-  pub count : entry.rose ≡ nat_lt 0 faults
+-- the record of a link of this state, where the link tells all of it
+abbrev pub record_of : Option (List ℕ) → Option (List ℕ) → Option Bool → ℕ → Option LinkRecord
+record_of (Some sent) (Some given) (Some more) faults =
+    Some (record { sent = sent; given = given; rose = nat_lt 0 faults; more = more })
+record_of _ _ _ faults = None
 
--- a spawner that tells its records, and tells on, has one more, of a link of this state
-abbrev pub AddsRecord : Option (List LinkRecord) → Option (List LinkRecord) → Option (List ℕ) → Option (List ℕ) → Option Bool → ℕ → Type 0
-AddsRecord None new sent given more faults = ⊤
-AddsRecord (Some records) None sent given more faults = ⊤
-AddsRecord (Some records) (Some new) sent given more faults =
-    (entry : LinkRecord) × IsRecord entry sent given more faults × (new ≡ records ++ entry ∷ [])
+-- the records that are told, with one more
+abbrev pub with_record : Option (List LinkRecord) → Option LinkRecord → Option (List LinkRecord)
+with_record (Some records) (Some entry) = Some (records ++ entry ∷ [])
+with_record _ _ = None
 
 -- nothing was sent or received yet, where the link tells it, and no call failed
 pub record IsFresh (sent given : Option (List ℕ)) (faults : ℕ) : Type 0 where
@@ -22,7 +19,8 @@ pub record IsFresh (sent given : Option (List ℕ)) (faults : ℕ) : Type 0 wher
   pub none_given : IfSome given (λ bytes. bytes ≡ [])
   pub no_fault : faults ≡ 0
 
--- records that are told, or not
-abbrev pub told : Bool → List LinkRecord → Option (List LinkRecord)
-told true records = Some records
-told false records = None
+-- a link tells all that a record of it has
+pub record IsTold (sent given : Option (List ℕ)) (more : Option Bool) : Type 0 where
+  pub told_sent : IsSome sent
+  pub told_given : IsSome given
+  pub told_more : IsSome more

@@ -4,7 +4,7 @@ use Rattle.std.specs.List.{flat_map}
 use Rattle.ci_base.specs.declared.numbers.Seq.{Seq}
 use Rattle.ci_chunk.specs.Talk.{Talk}
 use Rattle.ci_chunk.specs.declared.talk.Call.{Call}
-use Rattle.ci_link.specs.Line.{Dies, Exchanges, Speaking}
+use Rattle.ci_link.specs.Line.{Dies, Exchanges, RunsOut, Speaking}
 use Rattle.ci_link.specs.Reading.{IsBegun, IsRead}
 use Rattle.ci_link.specs.declared.outcome.Outcome.{Outcome}
 use Rattle.ci_link.specs.declared.outcome.Outcome.TheVariants.{Done}
@@ -49,7 +49,21 @@ abbrev pub TalksAs : Speaking → Speaking → List (List ℕ × Seq) → Came �
 TalksAs old new docs (Finished outcomes) = Finishes old new docs outcomes
 TalksAs old new docs (Died charged) = DiesAt old new docs charged
 
--- a document was read, or its talk died
+-- the first documents have their outcomes, and memory ran out within the one that follows them
+pub record RunsOutAt (old new : Speaking) (docs : List (List ℕ × Seq)) : Type 0 where
+  pub place : ℕ
+  pub talks : List Talk
+  pub outcomes : List Outcome
+  pub read : AreRead (take place docs) talks outcomes
+  pub path : List ℕ
+  pub seq : Seq
+  pub doc : slice_get docs place ≡ Some (path, seq)
+  pub talk : Talk
+  pub call : Call
+  pub begun : IsBegun path talk call
+  pub ran_out : RunsOut old new (joined talks) talk call
+
+-- a document was read, or its talk died, or memory ran out within it
 pub record Reads (old new : Speaking) (path : List ℕ) (pieces : List Piece) : Type 0 where
   pub talk : Talk
   pub read : IsRead path talk pieces
@@ -60,3 +74,9 @@ pub record DiesWithin (old new : Speaking) (path : List ℕ) : Type 0 where
   pub call : Call
   pub begun : IsBegun path talk call
   pub died : Dies old new [] talk call
+
+pub record RunsOutWithin (old new : Speaking) (path : List ℕ) : Type 0 where
+  pub talk : Talk
+  pub call : Call
+  pub begun : IsBegun path talk call
+  pub ran_out : RunsOut old new [] talk call

@@ -1,10 +1,10 @@
 ghost use Rattle.std.specs.Prelude.{◌≡◌, ◌<◌, ◌^◌, ◌++◌, ◌∷◌, [], false, IfErr, IfNone, IfOk, IsErrOf, IfSome, OnErr, OnOk, length, vec_len};
-ghost use Rattle.ci_link.specs.Line.{Exchanges, Falters, Hands, ReceivesNone, ReceivesSome, Unanswered};
+ghost use Rattle.ci_link.specs.Line.{Exchanges, Falters, GivesSome, Hands, ReceivesNone, ReceivesSome, RunsShort, Unanswered};
 ghost use Rattle.std.specs.Io.KnownBytes.{Appends};
 ghost use Rattle.ci_io.specs.Causes.{HasCause};
 ghost use Rattle.ci_io.specs.Putting.{AppendsFront};
 ghost use Rattle.ci_wire.specs.Stream.{BeginsWithFrame, IsBad, IsPartial};
-ghost use Rattle.ci_link.specs.Talking.{DiesWithin, Reads, TalksAs};
+ghost use Rattle.ci_link.specs.Talking.{DiesWithin, Reads, RunsOutAt, RunsOutWithin, TalksAs};
 
 use crate::document::{Document, Next};
 use crate::send::send_all;
@@ -82,7 +82,10 @@ impl<L: Link + Drop> Daemon<L> {
     pub fn talk(&mut self, alloc: Global, batch: &Batch) -> Result<Talk, OutOfMemory>
         requires some { 0 < length batch.now.docs }
         requires few { length batch.now.docs < 2 ^ 32 }
-        ensures { IfOk result (TalksAs self.old self.new batch.now.docs) }
+        ensures ok { IfOk result (TalksAs self.old self.new batch.now.docs) }
+
+        // What was sent until memory ran out is calls that follow the rules too.
+        ensures err { OnErr result (RunsOutAt self.old self.new batch.now.docs) }
     {
         let mut outcomes = Outcomes::new(alloc);
         for (place, doc) in batch.docs.items().iter().enumerate() {
@@ -103,6 +106,8 @@ impl<L: Link + Drop> Daemon<L> {
     fn read_document(&mut self, alloc: Global, path: &PathText) -> Result<Transcript, Stop>
         ensures read { IfOk result (Reads self.old self.new path.now) }
         ensures died { IsErrOf result Stop.Died → DiesWithin self.old self.new path.now }
+        ensures memory { IsErrOf result Stop.OutOfMemory →
+            RunsOutWithin self.old self.new path.now }
     {
         let mut document = Document::new(alloc);
         loop {
@@ -121,6 +126,7 @@ impl<L: Link + Drop> Daemon<L> {
         ensures answered { IfOk result
             (λ answer. Exchanges self.old self.new ((call.now, answer) ∷ [])) }
         ensures died { IsErrOf result Stop.Died → Unanswered self.old self.new call.now }
+        ensures memory { IsErrOf result Stop.OutOfMemory → RunsShort self.old self.new call.now }
     {
         let bytes = encode_call(alloc, call)?;
         match self.send(bytes.items()) {
@@ -149,6 +155,7 @@ impl<L: Link + Drop> Daemon<L> {
     fn next_frame(&mut self) -> Result<Frame, Stop>
         ensures frame { IfOk result (Hands self.old self.new) }
         ensures died { IsErrOf result Stop.Died → Falters self.old self.new }
+        ensures memory { IsErrOf result Stop.OutOfMemory → GivesSome self.old self.new }
     {
         loop {
             match self.take_frame() {
@@ -183,6 +190,7 @@ impl<L: Link + Drop> Daemon<L> {
         ensures some { IfOk result (ReceivesSome self.old self.new) }
         ensures ended { IfOk result (λ n. n ≡ 0 → IfSome self.new.more (λ m. m ≡ false)) }
         ensures died { IsErrOf result Stop.Died → ReceivesNone self.old self.new }
+        ensures memory { IsErrOf result Stop.OutOfMemory → GivesSome self.old self.new }
     {
         match self.link.receive(&mut self.buffer) {
             Ok(count) => {

@@ -1,9 +1,11 @@
 ghost use Rattle.std.specs.Prelude.{◌≡◌, ◌↔◌, ◌⊎◌, ◌<◌, ◌+◌, [], Contains, Some, IfOk, IfSome, IsErr, OnErr, false, length, min, nat_lt, take, drop};
 ghost use Rattle.std.specs.Io.{ReadsAtMost, WritesAtMost};
 ghost use Rattle.std.specs.Io.KnownBytes.{Appends};
+ghost use Rattle.ci_link.specs.Memory.{entry_of};
 ghost use Rattle.ci_io.specs.Causes.{HasCause, one_more};
 
 use crate::memory_parts::{add_within, copy_within_room, give_front};
+use crate::record_room::RecordRoom;
 use crate::{Link, LinkRecord};
 use ci_base::{OutOfMemory, Text8};
 use ci_io::Failed;
@@ -21,6 +23,8 @@ pub struct MemoryLink {
     fails: Vec<u64>,
     calls: u64,
     faults: u64,
+    // The memory for its record.
+    memory: RecordRoom,
 }
 
 impl Model for MemoryLink {
@@ -71,6 +75,7 @@ impl MemoryLink {
             fails,
             calls: 0,
             faults: 0,
+            memory: RecordRoom::new(alloc)?,
         })
     }
 
@@ -86,25 +91,24 @@ impl MemoryLink {
             fails: Vec::from_slice(alloc, self.fails.as_slice())?,
             calls: self.calls,
             faults: self.faults,
+            memory: RecordRoom::new(alloc)?,
         })
     }
 
-    /// What is told of the link, once it is given back. It takes no memory.
-    pub(crate) fn into_record(self) -> LinkRecord
-        ensures sent { result.sent ≡ self.sent }
-        ensures given { result.given ≡ self.given }
-        ensures rose { result.rose ≡ nat_lt 0 self.faults }
-        ensures more { result.more ≡ nat_lt 0 (length self.left) }
+    /// What is told of the link, once it is given back, and the memory for that.
+    pub(crate) fn into_record(self) -> (LinkRecord, RecordRoom)
+        ensures { result.0 ≡ entry_of self.sent self.given self.left self.faults }
     {
         let more = self.given < self.answers.items().len();
         let mut given = self.answers.into_vec();
         given.truncate(self.given);
-        LinkRecord {
+        let record = LinkRecord {
             sent: Text8::from(self.sent),
             given: Text8::from(given),
             rose: self.faults > 0,
             more,
-        }
+        };
+        (record, self.memory)
     }
 
     /// The bytes that were sent.
@@ -133,6 +137,7 @@ impl Link for MemoryLink {
         ensures given { Some self.new.given ≡ Some self.old.given }
         ensures more { Some (nat_lt 0 (length self.new.left))
             ≡ Some (nat_lt 0 (length self.old.left)) }
+        ensures left { self.new.left ≡ self.old.left }
         ensures cause { HasCause self.old.faults self.new.faults result }
 
         // A send fails where its number is listed, and where its bytes pass the room.
@@ -170,6 +175,7 @@ impl Link for MemoryLink {
         ensures fails { IsErr result ↔ Contains self.old.fails self.old.calls }
         ensures count { IfOk result (λ n. n ≡ min (length out.new) (length self.old.left)) }
         ensures left { IfOk result (λ n. self.new.left ≡ drop n self.old.left) }
+        ensures kept { OnErr result (self.new.left ≡ self.old.left) }
         ensures calls { self.new.calls ≡ one_more self.old.calls }
         ensures listed { self.new.fails ≡ self.old.fails }
         ensures room { self.new.room ≡ self.old.room }

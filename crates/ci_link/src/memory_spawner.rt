@@ -1,31 +1,27 @@
-ghost use Rattle.std.specs.Prelude.{◌≡◌, ◌≢◌, ◌⊎◌, ◌<◌, ◌≤◌, ◌-◌, ◌∷◌, [], Contains, Some, IsOk, IfOk, IsErrOf, OnOk, false, nat_lt, true, length};
+ghost use Rattle.std.specs.Prelude.{◌≡◌, ◌≢◌, ◌⊎◌, ◌↔◌, ◌<◌, ◌≤◌, ◌++◌, ◌∷◌, [], Contains, Some, IfOk, IsErr, IsErrOf, IsSome, OnErr, OnOk, nat_lt, length};
 ghost use Rattle.std.specs.List.{AllByRecursion};
 ghost use Rattle.ci_io.specs.Causes.{Rose, one_more};
-ghost use Rattle.ci_link.specs.Memory.{IsUnused};
-ghost use Rattle.ci_link.specs.Records.{AddsRecord, IsFresh, told};
+ghost use Rattle.ci_link.specs.Memory.{IsUnused, entry_of};
+ghost use Rattle.ci_link.specs.Records.{IsFresh, IsTold, record_of, with_record};
 
-use crate::{LinkRecord, MemoryLink, SpawnFault, Spawner};
+use crate::{MemoryLink, Records, SpawnFault, Spawner};
+use ci_base::OutOfMemory;
 use std::alloc::Global;
 use std::marker::Model;
 
 /// A spawner in memory, whose starts give these links in order, with a list of the starts that are
-/// to fail. It tells the records of the links given back, as long as they are no more than it
-/// started. Contracts see a `SpawnerState`.
+/// to fail. It tells the records of the links given back. Contracts see a `SpawnerState`.
 #[derive(Debug, Drop)]
 pub struct MemorySpawner {
     links: Vec<MemoryLink>,
     fails: Vec<u64>,
     calls: u64,
     faults: u64,
-    // How many links were started and not given back.
-    out: usize,
-    records: Vec<LinkRecord>,
-    tells: bool,
+    records: Records,
 }
 
 impl Model for MemorySpawner {
     ghost use Rattle.std.specs.List.{AllByRecursion};
-    ghost use Rattle.std.specs.Prelude.{◌≡◌, ◌≤◌, ◌+◌, true, vec_capacity, vec_len};
     ghost use Rattle.ci_link.specs.Memory.{IsUnused, SpawnerState};
 
     ghost Value = { SpawnerState };
@@ -35,27 +31,22 @@ impl Model for MemorySpawner {
       fails = s.fails.items;
       calls = s.calls;
       faults = s.faults;
-      out = s.out;
-      records = s.records.items;
-      tells = s.tells;
+      records = s.records;
     } };
 
-    ghost invariant = { λ s. (AllByRecursion IsUnused s.links.items)
-        × (s.tells ≡ true → vec_len s.records + s.out ≤ vec_capacity s.records) };
+    ghost invariant = { λ s. AllByRecursion IsUnused s.links.items };
 }
 
 impl MemorySpawner {
     /// A spawner of these links. Starts whose numbers, counted from 0, stand in `fails` are to fail.
-    pub fn new(alloc: Global, links: Vec<MemoryLink>, fails: Vec<u64>) -> MemorySpawner
+    pub fn new(_alloc: Global, links: Vec<MemoryLink>, fails: Vec<u64>) -> MemorySpawner
         requires { AllByRecursion IsUnused links.items }
         ensures { result ≡ record {
           links = links.items;
           fails = fails.items;
           calls = 0;
           faults = 0;
-          out = 0;
           records = [];
-          tells = true;
         } }
     {
         MemorySpawner {
@@ -63,78 +54,79 @@ impl MemorySpawner {
             fails,
             calls: 0,
             faults: 0,
-            out: 0,
-            records: Vec::new(alloc),
-            tells: true,
+            records: Records::new(),
         }
     }
 
+    /// Another spawner, with links of its own, which contracts see as equal to this one.
+    pub fn copy(&self, alloc: Global) -> Result<MemorySpawner, OutOfMemory>
+        ensures { IfOk result (λ s. s ≡ self.now) }
+    {
+        Ok(MemorySpawner {
+            links: copy_links(alloc, self.links.as_slice())?,
+            fails: Vec::from_slice(alloc, self.fails.as_slice())?,
+            calls: self.calls,
+            faults: self.faults,
+            records: self.records.copy(alloc)?,
+        })
+    }
+
     /// The records of the links given back, in order.
-    pub fn records(&self) -> &[LinkRecord]
+    pub fn records(&self) -> &Records
         ensures { result.now ≡ self.now.records }
     {
-        self.records.as_slice()
+        &self.records
     }
 }
 
 impl Spawner for MemorySpawner {
     type Link = MemoryLink;
 
-    ghost records = { λ s. told s.tells s.records };
+    ghost records = { λ s. Some s.records };
 
     ghost faults = { λ s. s.faults };
 
     fn start(&mut self, _alloc: Global, _program: &str) -> Result<MemoryLink, SpawnFault>
         ensures fresh { IfOk result (λ link.
             IsFresh (Some link.sent) (Some link.given) link.faults) }
-        ensures records { told self.new.tells self.new.records
-            ≡ told self.old.tells self.old.records }
+        ensures told { IsSome (Some self.old.records) → IfOk result (λ link.
+            IsTold (Some link.sent) (Some link.given) (Some (nat_lt 0 (length link.left)))) }
+        ensures records { Some self.new.records ≡ Some self.old.records }
         ensures later { self.old.faults ≤ self.new.faults }
         ensures failed { IsErrOf result SpawnFault.Failed → Rose self.old.faults self.new.faults }
         ensures kept { OnOk result (self.new.faults ≡ self.old.faults) }
-        ensures memory { IsErrOf result SpawnFault.OutOfMemory →
-            self.new.faults ≡ self.old.faults }
+        ensures memory { IsErrOf result SpawnFault.OutOfMemory → ⊥ }
 
         // A start fails where its number is listed, and where no link is left.
-        ensures fails { IsErrOf result SpawnFault.Failed →
-            Contains self.old.fails self.old.calls ⊎ (self.old.links ≡ []) }
+        ensures fails { IsErr result ↔
+            (Contains self.old.fails self.old.calls ⊎ (self.old.links ≡ [])) }
         ensures gives { IfOk result (λ link. self.old.links ≡ link ∷ self.new.links) }
-        ensures unlisted { IsOk result → ¬ Contains self.old.fails self.old.calls }
+        ensures err { OnErr result (self.new.links ≡ self.old.links) }
         ensures calls { self.new.calls ≡ one_more self.old.calls }
-        ensures out { OnOk result (self.new.out ≡ one_more self.old.out) }
+        ensures listed { self.new.fails ≡ self.old.fails }
     {
         let call = self.calls;
         self.calls = call.saturating_add(1);
-        if self.fails.contains(&call) {
+        if self.fails.contains(&call) || self.links.is_empty() {
             self.faults = self.faults.saturating_add(1);
             return Err(SpawnFault::Failed);
         }
-        if self.links.is_empty() {
-            self.faults = self.faults.saturating_add(1);
-            return Err(SpawnFault::Failed);
-        }
-        let out = self.out.saturating_add(1);
-        if self.records.reserve(out).is_err() {
-            return Err(SpawnFault::OutOfMemory);
-        }
-        self.out = out;
         Ok(take_first(&mut self.links))
     }
 
     fn stop(&mut self, link: MemoryLink)
-        ensures records { AddsRecord (told self.old.tells self.old.records)
-            (told self.new.tells self.new.records)
-            (Some link.sent) (Some link.given) (Some (nat_lt 0 (length link.left))) link.faults }
+        ensures records { Some self.new.records ≡ with_record (Some self.old.records)
+            (record_of (Some link.sent) (Some link.given) (Some (nat_lt 0 (length link.left)))
+            link.faults) }
+        ensures tells_on { IsSome (Some self.old.records) → IsSome (Some self.new.records) }
         ensures faults { self.new.faults ≡ self.old.faults }
 
-        // It takes no memory, and tells on, if the link is one of those that it started.
-        ensures tells { self.old.tells ≡ true → 0 < self.old.out → self.new.tells ≡ true }
-        ensures out { self.new.out ≡ self.old.out - 1 }
+        // Nothing else changes.
+        ensures now { let entry = entry_of link.sent link.given link.left link.faults in
+            self.new ≡ record self.old { records = self.old.records ++ entry ∷ [] } }
     {
-        if self.records.push(link.into_record()).is_err() {
-            self.tells = false;
-        }
-        self.out = self.out.saturating_sub(1);
+        let (record, memory) = link.into_record();
+        self.records.add(memory, record);
     }
 }
 
@@ -146,4 +138,14 @@ fn take_first(links: &mut Vec<MemoryLink>) -> MemoryLink
     ensures still { AllByRecursion IsUnused links.new.items }
 {
     links.remove(0)
+}
+
+fn copy_links(alloc: Global, links: &[MemoryLink]) -> Result<Vec<MemoryLink>, OutOfMemory>
+    ensures { IfOk result (λ copied. copied.items ≡ links.now) }
+{
+    let mut copied = Vec::new(alloc);
+    for link in links {
+        copied.push(link.copy(alloc)?)?;
+    }
+    Ok(copied)
 }

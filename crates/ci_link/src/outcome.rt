@@ -47,6 +47,18 @@ impl Outcome {
     }
 }
 
+impl Talk {
+    /// Another talk that came to the same.
+    pub fn copy(&self, alloc: Global) -> Result<Talk, OutOfMemory>
+        ensures { IfOk result (λ t. t ≡ self.now) }
+    {
+        match self {
+            Talk::Finished(outcomes) => Ok(Talk::Finished(outcomes.copy(alloc)?)),
+            Talk::Died { charged } => Ok(Talk::Died { charged: *charged }),
+        }
+    }
+}
+
 impl Outcomes {
     /// No outcomes, and no memory taken.
     pub fn new(alloc: Global) -> Outcomes

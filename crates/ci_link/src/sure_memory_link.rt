@@ -1,9 +1,11 @@
 ghost use Rattle.std.specs.Prelude.{◌≡◌, ◌↔◌, ◌<◌, ◌+◌, [], Some, IfOk, IfSome, IsErr, IsOk, OnErr, false, length, min, nat_lt, take, drop};
 ghost use Rattle.std.specs.Io.{ReadsAtMost, WritesAtMost};
 ghost use Rattle.std.specs.Io.KnownBytes.{Appends};
+ghost use Rattle.ci_link.specs.Memory.{entry_of};
 ghost use Rattle.ci_io.specs.Causes.{HasCause};
 
 use crate::memory_parts::{add_within, copy_within_room, give_front};
+use crate::record_room::RecordRoom;
 use crate::{Link, LinkRecord};
 use ci_base::{OutOfMemory, Text8};
 use ci_io::Failed;
@@ -19,6 +21,8 @@ pub struct SureMemoryLink {
     sent: Vec<u8>,
     room: usize,
     faults: u64,
+    // The memory for its record.
+    memory: RecordRoom,
 }
 
 impl Model for SureMemoryLink {
@@ -57,6 +61,7 @@ impl SureMemoryLink {
             sent: Vec::with_capacity(alloc, room)?,
             room,
             faults: 0,
+            memory: RecordRoom::new(alloc)?,
         })
     }
 
@@ -70,25 +75,24 @@ impl SureMemoryLink {
             sent: copy_within_room(alloc, &self.sent, self.room)?,
             room: self.room,
             faults: self.faults,
+            memory: RecordRoom::new(alloc)?,
         })
     }
 
-    /// What is told of the link, once it is given back. It takes no memory.
-    pub(crate) fn into_record(self) -> LinkRecord
-        ensures sent { result.sent ≡ self.sent }
-        ensures given { result.given ≡ self.given }
-        ensures rose { result.rose ≡ nat_lt 0 self.faults }
-        ensures more { result.more ≡ nat_lt 0 (length self.left) }
+    /// What is told of the link, once it is given back, and the memory for that.
+    pub(crate) fn into_record(self) -> (LinkRecord, RecordRoom)
+        ensures { result.0 ≡ entry_of self.sent self.given self.left self.faults }
     {
         let more = self.given < self.answers.items().len();
         let mut given = self.answers.into_vec();
         given.truncate(self.given);
-        LinkRecord {
+        let record = LinkRecord {
             sent: Text8::from(self.sent),
             given: Text8::from(given),
             rose: self.faults > 0,
             more,
-        }
+        };
+        (record, self.memory)
     }
 
     /// The bytes that were sent.
@@ -117,6 +121,7 @@ impl Link for SureMemoryLink {
         ensures given { Some self.new.given ≡ Some self.old.given }
         ensures more { Some (nat_lt 0 (length self.new.left))
             ≡ Some (nat_lt 0 (length self.old.left)) }
+        ensures left { self.new.left ≡ self.old.left }
         ensures cause { HasCause self.old.faults self.new.faults result }
 
         // A send fails where its bytes pass the room.

@@ -3,7 +3,7 @@
 use ci_base::{PathText, Seq, Text8};
 use ci_change::{Batch, Docs};
 use ci_chunk::{Call, Piece};
-use ci_link::{ChildSpawner, Daemon, Link, MemoryLink, Outcome, Spawner, SureMemoryLink, Talk};
+use ci_link::{Daemon, Link, MemoryLink, Outcome, SureMemoryLink, Talk};
 use ci_wire::encode_call;
 use std::alloc::Global;
 use std::process::Abort;
@@ -62,7 +62,11 @@ fn red(alloc: Global) -> Result<Text8, Fail> {
     spelled(alloc, &RED)
 }
 
-fn talked<L: Link + Drop>(alloc: Global, link: L, paths: &[&str]) -> Result<(Talk, L), Fail> {
+pub(crate) fn talked<L: Link + Drop>(
+    alloc: Global,
+    link: L,
+    paths: &[&str],
+) -> Result<(Talk, L), Fail> {
     let mut daemon = Daemon::new(alloc, link).ok().ok_or("memory for a daemon")?;
     let batch = batch(alloc, paths)?;
     if batch.docs.items().is_empty() || batch.docs.items().len() > 16 {
@@ -125,15 +129,52 @@ fn two_documents_are_read(rt: HostRuntime) -> Result<(), Fail> {
         Talk::Finished(outcomes) => {
             assert_eq!(rt; outcomes.items().len(), 2);
             assert!(rt; outcomes.items().iter().all(|outcome| is_red(outcome)));
-            assert!(rt;
-                outcomes
-                    .copy(alloc)?
-                    .items()
-                    .iter()
-                    .all(|outcome| is_red(outcome))
-            );
         }
         Talk::Died { charged } => assert!(rt; false, "died at {charged}"),
+    }
+    Ok(())
+}
+
+// What came of a batch of so many documents, which are red.
+fn many_red(alloc: Global, paths: &[&str]) -> Result<String, Fail> {
+    let mut answers = Vec::new(alloc);
+    for _ in paths {
+        answers.extend_from_slice(red(alloc)?.items())?;
+    }
+    let link = SureMemoryLink::new(alloc, Text8::from(answers), 4096)?;
+    let (talk, _link) = talked(alloc, link, paths)?;
+    shown(alloc, &talk)
+}
+
+#[test]
+fn sixteen_documents_are_read(rt: HostRuntime) -> Result<(), Fail> {
+    assert_eq!(rt; many_red(rt.alloc(), &["/d/a.txt"; 16])?.as_str(), "red 16");
+    Ok(())
+}
+
+// What a talk came to: how many documents were red, or where it died.
+fn shown(alloc: Global, talk: &Talk) -> Result<String, Fail> {
+    match talk {
+        Talk::Finished(outcomes) => {
+            let red = outcomes.items().iter().filter(|outcome| is_red(outcome));
+            Ok(format!(in alloc; "red {}", red.count())?)
+        }
+        Talk::Died { charged } => Ok(format!(in alloc; "died at {charged}")?),
+    }
+}
+
+#[test]
+fn a_copied_talk_came_to_the_same(rt: HostRuntime) -> Result<(), Fail> {
+    let alloc = rt.alloc();
+    for (paths, wanted) in [
+        (["/d/a.txt"].as_slice(), "red 1"),
+        (["/d/a.txt", "/d/b.txt"].as_slice(), "died at 1"),
+    ] {
+        let link = SureMemoryLink::new(alloc, red(alloc)?, 2048)?;
+        let (talk, _link) = talked(alloc, link, paths)?;
+        let copied = talk.copy(alloc)?;
+        assert_eq!(rt; shown(alloc, &talk)?.as_str(), wanted);
+        assert_eq!(rt; shown(alloc, &copied)?.as_str(), wanted);
     }
     Ok(())
 }
@@ -189,19 +230,4 @@ fn a_failed_call_ends_the_talk(rt: HostRuntime) -> Result<(), Fail> {
     let answers = red(alloc)?;
     let link = MemoryLink::new(alloc, answers, Vec::new(alloc), 20)?;
     dies_at(&rt, alloc, link, &["/d/a.txt"], 0)
-}
-
-#[test]
-fn a_child_that_says_what_it_hears_is_no_daemon(rt: HostRuntime) -> Result<(), Fail> {
-    let alloc = rt.alloc();
-    let mut spawner = ChildSpawner::new(rt.clone()?);
-    let link = spawner.start(alloc, "cat").ok().ok_or("a child")?;
-    let (talk, link) = talked(alloc, link, &["/d/a.txt"])?;
-    match talk {
-        Talk::Finished(_) => assert!(rt; false, "finished"),
-        Talk::Died { charged } => assert_eq!(rt; charged, 0),
-    }
-    spawner.stop(link);
-    assert!(rt; spawner.start(alloc, "/no/such/program").is_err());
-    Ok(())
 }

@@ -1,8 +1,7 @@
 -- What searches of a list of numbered paths find.
-use Rattle.std.proofs.Common.{◌≡◌, ℕ, suc, zero, Bool, true, false, cond, List, [], ◌∷◌, ◌++◌, Option, Some, None, bytes_eq, ◌⊎◌, inl, inr, find, slice_get, length, refl, sym, ap, ◌∙◌}
+use Rattle.std.proofs.Common.{◌≡◌, ◌<◌, ℕ, suc, zero, Bool, true, false, cond, List, [], ◌∷◌, ◌++◌, Option, Some, None, ◌⊎◌, inl, inr, find, get_or, slice_get, length, take, arith, refl, sym, ap, ◌∙◌}
 use Rattle.std.specs.Map.{lookup}
-use Rattle.indexmap.specs.IndexMap.{IndexMap, insert_entry}
-use Rattle.indexmap.proofs.CallerLemmas.{insert_entry-new}
+use Rattle.std.proofs.lemmas.Option.{slice_get_read}
 
 module _ {X : Type 0} (test : X → Bool) where
   place-step : (y x : X) (ys : List X) (b : Bool) → test y ≡ b → cond b (Some y) (find test ys) ≡ Some x
@@ -34,6 +33,18 @@ module _ {X : Type 0} where
   pub slice_get-last : (xs : List X) (y : X) → slice_get (xs ++ y ∷ []) (length xs) ≡ Some y
   slice_get-last [] y = refl
   slice_get-last (x ∷ xs) y = slice_get-last xs y
+
+  -- what stands in a front of a list stands there in the list
+  pub slice_get-take : (xs : List X) (n at : ℕ) (x : X) → slice_get (take n xs) at ≡ Some x → (at < n) × (slice_get xs at ≡ Some x)
+  slice_get-take [] zero at x there = cc
+  slice_get-take [] (suc n) at x there = cc
+  slice_get-take (y ∷ ys) zero at x there = cc
+  slice_get-take (y ∷ ys) (suc n) zero x there = (omega arith, there)
+  slice_get-take (y ∷ ys) (suc n) (suc at) x there = let (below, here) = slice_get-take ys n at x there in (omega (arith, below), here)
+
+  -- what a loop over a list reads stands there
+  pub slice_get-shown : (xs shown : List X) (at : ℕ) (x : X) → shown ≡ xs → at < length shown → x ≡ get_or shown at x → slice_get xs at ≡ Some x
+  slice_get-shown xs shown at x same within is = ap (λ l. slice_get l at) (sym same) ∙ slice_get_read shown (length shown) at x refl within is
 
   -- what stands in a longer list was there, or came last
   pub slice_get-push : (xs : List X) (y x : X) (at : ℕ) → slice_get (xs ++ y ∷ []) at ≡ Some x → (slice_get xs at ≡ Some x) ⊎ ((at ≡ length xs) × (y ≡ x))
@@ -75,7 +86,7 @@ module _ {K X : Type 0} (test : K → Bool) where
   lookup-last [] e passes none = ap (λ b. cond b (Some e.1) None) passes
   lookup-last (f ∷ es) e passes none = last-step e.1 f.1 (lookup test es) (lookup test (es ++ e ∷ [])) (test f.0) (lookup-last es e passes) none
 
--- a new path comes last
-pub insert_entry-last : {X S : Type 0} (m : IndexMap (List ℕ) X S) (key path : List ℕ) (x : X) → key ≡ path → lookup (bytes_eq path) m.entries ≡ None → insert_entry bytes_eq m.entries key x ≡ m.entries ++ (path, x) ∷ []
-insert_entry-last m key path x same new =
-    insert_entry-new bytes_eq m key x (ap (λ p. lookup (bytes_eq p) m.entries) same ∙ new) ∙ ap (λ p. m.entries ++ (p, x) ∷ []) same
+  -- an entry whose key doesn't pass changes nothing
+  pub lookup-other : (es : List (K × X)) (e : K × X) → test e.0 ≡ false → lookup test (es ++ e ∷ []) ≡ lookup test es
+  lookup-other [] e fails = ap (λ b. cond b (Some e.1) None) fails
+  lookup-other (f ∷ es) e fails = ap (λ o. cond (test f.0) (Some f.1) o) (lookup-other es e fails)

@@ -1,13 +1,13 @@
 -- Paths and their numbers, found by the places that are kept.
-use Rattle.std.proofs.Common.{◌≡◌, ◌≢◌, ◌==◌, ℕ, ◌+◌, ◌-◌, ◌^◌, ◌<◌, List, [], ◌∷◌, ◌++◌, Option, Some, None, IsNone, IsSome, IfSome, rules, inl, inr, bytes_eq, find, slice_get, length, set, replicate, option_map, refl, sym, ap, subst, ◌∙◌, arith, eqb-true, eq-eqb, length-append, length-set, get_or-set_same, get_or-set_other}
+use Rattle.std.proofs.Common.{◌≡◌, ◌≢◌, ◌==◌, ℕ, ◌+◌, ◌-◌, ◌^◌, ◌<◌, List, [], ◌∷◌, ◌++◌, Option, Some, None, IsNone, IsSome, IfSome, rules, inl, inr, bytes_eq, find, slice_get, length, take, set, replicate, option_map, refl, sym, ap, subst, ◌∙◌, arith, eqb-true, eq-eqb, length-append, length-set, get_or-set_same, get_or-set_other}
 use Rattle.std.proofs.lemmas.Bool.{cases_eq}
 use Rattle.std.proofs.lemmas.List.{length-replicate}
 use Rattle.std.proofs.lemmas.Slice.Eq.{bytes_eq-Decides}
 use Rattle.ci_base.specs.declared.numbers.DocNo.{DocNo}
 use Rattle.ci_paths.specs.Numbering.{IsLeastFree, number_of, path_of}
 use Rattle.ci_paths.specs.Places.{IsIndexed, place_of, least_empty}
-use Rattle.ci_paths.proofs.Entries.{find-place, find-some, lookup-place, lookup-front, lookup-last, slice_get-front, slice_get-last, slice_get-push}
-use Rattle.ci_paths.proofs.PlacesLemmas.{least_empty-below, least_empty-none, place_of-room, count-room, count-put}
+use Rattle.ci_paths.proofs.Entries.{find-place, find-some, lookup-place, lookup-front, lookup-last, slice_get-front, slice_get-last, slice_get-push, slice_get-take}
+use Rattle.ci_paths.proofs.PlacesLemmas.{place_of-within, least_empty-below, least_empty-none, place_of-room, count-room, count-put}
 
 -- a path that stands in the list has its number alone
 pub path_of-entry : (numbered : List (List ℕ × DocNo)) (places : List (Option ℕ)) → IsIndexed numbered places → (at : ℕ) (e : List ℕ × DocNo) → slice_get numbered at ≡ Some e → path_of numbered e.1.0 ≡ Some e.0
@@ -129,3 +129,32 @@ IsIndexed-put numbered places path doc indexed within new free =
       count = count-put places doc.0 (length numbered) within empty ∙ ap (λ n. n + 1) indexed.count ∙ sym (length-append numbered ((path, doc) ∷ []));
       bound = let room = indexed.bound in omega (arith, length-set places doc.0 (Some (length numbered)));
     }
+
+-- a path at a place doesn't stand before that place, and neither does its number
+pub number_of-before : (numbered : List (List ℕ × DocNo)) (places : List (Option ℕ)) → IsIndexed numbered places → (at : ℕ) (e : List ℕ × DocNo) → slice_get numbered at ≡ Some e → number_of (take at numbered) e.0 ≡ None
+number_of-before numbered places indexed at e there = by (number_of (take at numbered) e.0) refl
+  where
+    by : (o : Option DocNo) → number_of (take at numbered) e.0 ≡ o → o ≡ None
+    by None found = refl
+    by (Some doc) found =
+        let (before, key, stands, passes) = lookup-place (bytes_eq e.0) (take at numbered) doc found in
+        let (below, here) = slice_get-take numbered at before (key, doc) stands in
+        let same : e.0 ≡ key = (bytes_eq-Decides e.0 key).0 passes in
+        let own : Some e.1 ≡ Some doc = sym (indexed.paths at e there) ∙ ap (number_of numbered) same ∙ indexed.paths before (key, doc) here in
+        let one : Some at ≡ Some before = sym (indexed.listed at e there) ∙ ap (λ (d : DocNo). place_of places d.0) (let is : e.1 ≡ doc = cc in is) ∙ indexed.listed before (key, doc) here in
+        let is : at ≡ before = cc in absurd (omega (arith, below, is))
+
+pub path_of-before : (numbered : List (List ℕ × DocNo)) (places : List (Option ℕ)) → IsIndexed numbered places → (at : ℕ) (e : List ℕ × DocNo) → slice_get numbered at ≡ Some e → path_of (take at numbered) e.1.0 ≡ None
+path_of-before numbered places indexed at e there = by (find (λ (f : List ℕ × DocNo). f.1.0 == e.1.0) (take at numbered)) refl
+  where
+    by : (o : Option (List ℕ × DocNo)) → find (λ (f : List ℕ × DocNo). f.1.0 == e.1.0) (take at numbered) ≡ o → option_map (λ (f : List ℕ × DocNo). f.0) o ≡ None
+    by None found = refl
+    by (Some f) found =
+        let (before, stands, passes) = find-place (λ (f : List ℕ × DocNo). f.1.0 == e.1.0) (take at numbered) f found in
+        let (below, here) = slice_get-take numbered at before f stands in
+        let one : Some before ≡ Some at = sym (indexed.listed before f here) ∙ ap (place_of places) (eqb-true _ _ passes) ∙ indexed.listed at e there in
+        let is : before ≡ at = cc in absurd (omega (arith, below, is))
+
+-- and the number is one of those that have places
+pub number-bound : (numbered : List (List ℕ × DocNo)) (places : List (Option ℕ)) → IsIndexed numbered places → (at : ℕ) (e : List ℕ × DocNo) → slice_get numbered at ≡ Some e → e.1.0 + 1 < 2 ^ 32
+number-bound numbered places indexed at e there = let room = indexed.bound in omega (arith, place_of-within places e.1.0 at (indexed.listed at e there))

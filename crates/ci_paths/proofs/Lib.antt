@@ -2,3 +2,4 @@ pub mod Entries
 pub mod Indexed
 pub mod PlacesLemmas
 pub mod Prefixes
+pub mod SortedLemmas

@@ -91,3 +91,10 @@ pub count-le : (places : List (Option ℕ)) → length (filter is_some places) �
 count-le [] = omega arith
 count-le (None ∷ places) = let rest = count-le places in omega arith
 count-le (Some at ∷ places) = let rest = count-le places in omega arith
+
+-- a number that has a place is one of those that the list has
+pub place_of-within : (places : List (Option ℕ)) (n at : ℕ) → place_of places n ≡ Some at → n < length places
+place_of-within [] zero at kept = cc
+place_of-within [] (suc n) at kept = cc
+place_of-within (place ∷ places) zero at kept = omega arith
+place_of-within (place ∷ places) (suc n) at kept = omega (arith, place_of-within places n at kept)

@@ -2,6 +2,7 @@
 #![tactic(auto)]
 
 mod number_faults;
+mod numbered;
 mod numbers;
 mod places;
 mod prefix;

@@ -1,10 +1,10 @@
 ghost use Rattle.std.specs.Prelude.{◌≡◌, ◌<◌, ◌≤◌, ◌↔◌, ◌+◌, ◌^◌, [], None, Some, length, IsOk, IfOk, OnOk, OnErr, IsErrOf, IsSome, IfSome};
 ghost use Rattle.std.specs.Option.{option_copied};
 
+use crate::numbered::Numbered;
 use crate::places::Places;
 use crate::{AdoptFault, NumberFault};
 use ci_base::{DocNo, OutOfMemory, PathText};
-use indexmap::IndexMap;
 use std::alloc::Global;
 use std::marker::Model;
 
@@ -16,7 +16,7 @@ pub const DOCUMENTS: u32 = 262_144;
 pub struct Numbers {
     alloc: Global,
     limit: u32,
-    docs: IndexMap<PathText, DocNo>,
+    docs: Numbered,
     places: Places,
 }
 
@@ -26,9 +26,9 @@ impl Model for Numbers {
 
     ghost Value = { Numbering };
 
-    ghost view = { λ n. record { numbered = n.docs.entries; limit = n.limit } };
+    ghost view = { λ n. record { numbered = n.docs; limit = n.limit } };
 
-    ghost invariant = { λ n. IsIndexed n.docs.entries n.places };
+    ghost invariant = { λ n. IsIndexed n.docs n.places };
 }
 
 impl Numbers {
@@ -42,9 +42,20 @@ impl Numbers {
         Numbers {
             alloc,
             limit,
-            docs: IndexMap::new(alloc),
+            docs: Numbered::new(alloc),
             places: Places::new(alloc),
         }
+    }
+
+    /// Other numbers, which contracts see as equal to these.
+    pub fn copy(&self, alloc: Global) -> Result<Numbers, OutOfMemory>
+        ensures { IfOk result (λ n. n ≡ self.now) }
+    {
+        let mut copied = Numbers::new(alloc, self.limit);
+        for (path, doc) in self.docs.items() {
+            copied.keep(*doc, path)?;
+        }
+        Ok(copied)
     }
 
     /// From now on at most so many paths are numbered. Those that are stay so.
@@ -118,7 +129,7 @@ impl Numbers {
         ensures own { IfSome result (λ p. number_of self.now.numbered p.now ≡ Some doc) }
     {
         match self.places.place_of(doc.0 as usize) {
-            Some(place) => Some(self.docs.get_index(place).unwrap().0),
+            Some(place) => Some(&self.docs.items()[place].0),
             None => None,
         }
     }
@@ -127,7 +138,7 @@ impl Numbers {
     pub fn len(&self) -> u32
         ensures { result ≡ length self.now.numbered }
     {
-        self.docs.len() as u32
+        self.docs.items().len() as u32
     }
 
     // Numbers a new path by a free number.
@@ -140,9 +151,9 @@ impl Numbers {
         ensures err { OnErr result (self.new ≡ self.old) }
     {
         let number = doc.0 as usize;
-        let place = self.docs.len();
+        let place = self.docs.items().len();
         self.places.make_room(number)?;
-        self.docs.insert(path.copy(self.alloc)?, doc)?;
+        self.docs.add(self.alloc, path, doc)?;
         self.places.put(number, place);
         Ok(())
     }

@@ -22,6 +22,7 @@ pub fn play<K: Sink + Drop>(
 ) -> Result<(), CoreFault>
     ensures ok { OnOk result (Plays catalog.old catalog.new step) }
     ensures refused { IfErr result (Stops catalog.old catalog.new step) }
+    ensures unrefused { OnOk result (catalog.new.refusal ≡ catalog.old.refusal) }
     ensures fixed { KeepsFixed catalog.old catalog.new }
 {
     match step {
@@ -53,6 +54,7 @@ fn play_ask<K: Sink + Drop>(
 ) -> Result<(), CoreFault>
     ensures ok { OnOk result (Plays catalog.old catalog.new (Step.Ask by request)) }
     ensures refused { IfErr result (Stops catalog.old catalog.new (Step.Ask by request)) }
+    ensures unrefused { OnOk result (catalog.new.refusal ≡ catalog.old.refusal) }
     ensures fixed { KeepsFixed catalog.old catalog.new }
 {
     if by == 0 {
@@ -69,6 +71,7 @@ fn play_note<K: Sink + Drop>(
 ) -> Result<(), CoreFault>
     ensures ok { OnOk result (Plays catalog.old catalog.new (Step.Note by path what)) }
     ensures refused { IfErr result (Stops catalog.old catalog.new (Step.Note by path what)) }
+    ensures unrefused { OnOk result (catalog.new.refusal ≡ catalog.old.refusal) }
     ensures fixed { KeepsFixed catalog.old catalog.new }
 {
     if by == 0 {
@@ -87,6 +90,7 @@ fn play_put<K: Sink + Drop>(
     ensures ok { OnOk result (Plays catalog.old catalog.new (Step.Put by path seq transcript)) }
     ensures refused { IfErr result
         (Stops catalog.old catalog.new (Step.Put by path seq transcript)) }
+    ensures unrefused { OnOk result (catalog.new.refusal ≡ catalog.old.refusal) }
     ensures fixed { KeepsFixed catalog.old catalog.new }
 {
     if can_put(catalog.journal().events(), by, &path, seq, &transcript) {
@@ -102,6 +106,7 @@ fn play_erase<K: Sink + Drop>(
 ) -> Result<(), CoreFault>
     ensures ok { OnOk result (Plays catalog.old catalog.new (Step.Erase by path)) }
     ensures refused { IfErr result (Stops catalog.old catalog.new (Step.Erase by path)) }
+    ensures unrefused { OnOk result (catalog.new.refusal ≡ catalog.old.refusal) }
     ensures fixed { KeepsFixed catalog.old catalog.new }
 {
     catalog.erase(by, &path)?;
@@ -115,6 +120,7 @@ fn play_begin<K: Sink + Drop>(
 ) -> Result<(), CoreFault>
     ensures ok { OnOk result (Plays catalog.old catalog.new (Step.BeginBatch by max)) }
     ensures refused { IfErr result (Stops catalog.old catalog.new (Step.BeginBatch by max)) }
+    ensures unrefused { OnOk result (catalog.new.refusal ≡ catalog.old.refusal) }
     ensures fixed { KeepsFixed catalog.old catalog.new }
 {
     if 1 <= max {
@@ -133,6 +139,7 @@ fn play_finish<K: Sink + Drop>(
         (Plays catalog.old catalog.new (Step.FinishBatch by batch outcomes)) }
     ensures refused { IfErr result
         (Stops catalog.old catalog.new (Step.FinishBatch by batch outcomes)) }
+    ensures unrefused { OnOk result (catalog.new.refusal ≡ catalog.old.refusal) }
     ensures fixed { KeepsFixed catalog.old catalog.new }
 {
     if can_finish(catalog.journal().events(), by, &batch, &outcomes) {
@@ -144,6 +151,7 @@ fn play_finish<K: Sink + Drop>(
 fn play_open<K: Sink + Drop>(catalog: &mut Catalog<K>, by: u32) -> Result<(), CoreFault>
     ensures ok { OnOk result (Plays catalog.old catalog.new (Step.OpenQuery by)) }
     ensures refused { IfErr result (Stops catalog.old catalog.new (Step.OpenQuery by)) }
+    ensures unrefused { OnOk result (catalog.new.refusal ≡ catalog.old.refusal) }
     ensures fixed { KeepsFixed catalog.old catalog.new }
 {
     catalog.open_query(by)?;
@@ -161,6 +169,7 @@ fn play_answer<K: Sink + Drop>(
     ensures ok { OnOk result (Plays catalog.old catalog.new (Step.Answer by id at paths)) }
     ensures refused { IfErr result
         (Stops catalog.old catalog.new (Step.Answer by id at paths)) }
+    ensures unrefused { OnOk result (catalog.new.refusal ≡ catalog.old.refusal) }
     ensures fixed { KeepsFixed catalog.old catalog.new }
 {
     if can_answer(alloc, catalog, id, at, &paths)? {
@@ -177,6 +186,7 @@ fn play_say<K: Sink + Drop>(
 ) -> Result<(), CoreFault>
     ensures ok { OnOk result (Plays catalog.old catalog.new (Step.Say by id reply)) }
     ensures refused { IfErr result (Stops catalog.old catalog.new (Step.Say by id reply)) }
+    ensures unrefused { OnOk result (catalog.new.refusal ≡ catalog.old.refusal) }
     ensures fixed { KeepsFixed catalog.old catalog.new }
 {
     if can_say(catalog, id) {

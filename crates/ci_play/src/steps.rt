@@ -15,6 +15,7 @@ use std::alloc::Global;
 pub fn run_core<K: Sink + Drop>(catalog: &mut Catalog<K>, steps: Vec<Step>) -> Result<(), CoreFault>
     ensures ok { OnOk result (Played catalog.old steps.items catalog.new) }
     ensures refused { IfErr result (PlayedUntil catalog.old steps.items catalog.new) }
+    ensures unrefused { OnOk result (catalog.new.refusal ≡ catalog.old.refusal) }
     ensures fixed { KeepsFixed catalog.old catalog.new }
     ensures run { Run catalog.new.terms catalog.new.sheet.events }
     ensures answers { AllAnswer catalog.new.terms catalog.new.sheet.events }
@@ -32,6 +33,7 @@ fn play_all<K: Sink + Drop>(
 ) -> Result<(), CoreFault>
     ensures ok { OnOk result (Played catalog.old steps.items catalog.new) }
     ensures refused { IfErr result (PlayedUntil catalog.old steps.items catalog.new) }
+    ensures unrefused { OnOk result (catalog.new.refusal ≡ catalog.old.refusal) }
     ensures fixed { KeepsFixed catalog.old catalog.new }
 {
     for step in steps {

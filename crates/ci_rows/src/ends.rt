@@ -1,14 +1,11 @@
-//! How sessions end that aren't done.
+//! How sessions end that aren't done, and the exit statuses.
 
-use crate::sessions::{bounded, command, under};
-use ci_base::Text8;
-use ci_io::{MemorySink, MemorySource, SureMemorySink, SureMemorySource};
-use ci_server::{Status, run};
+use crate::sessions::{bounded, commanded, cut_off, unread};
+use ci_server::Status;
 use std::test::Fail;
 
 #[test]
 fn other_commands_are_refused(rt: HostRuntime) -> Result<(), Fail> {
-    let alloc = rt.alloc();
     let rows: [&[&str]; 5] = [
         &["cisvc"],
         &["cisvc", "steps"],
@@ -17,13 +14,10 @@ fn other_commands_are_refused(rt: HostRuntime) -> Result<(), Fail> {
         &["cisvc", "steps", "/", "/"],
     ];
     for words in rows {
-        let source = SureMemorySource::new(alloc, Text8::of(alloc, b"hello\n")?);
-        let sink = SureMemorySink::new(alloc, 4096, 4096)?;
-        let session = run(alloc, &command(alloc, words)?, source, sink);
-        assert_eq!(rt; session.status, Status::Usage, "{words:?}");
-        assert_eq!(rt; session.status.exit_code(), 2);
-        assert!(rt; session.sink.bytes().is_empty());
-        assert!(rt; session.journal.events().is_empty());
+        assert_eq!(rt;
+            commanded(rt.alloc(), words, "hello|")?.as_str(),
+            "Usage 0: "
+        );
     }
     Ok(())
 }
@@ -35,56 +29,55 @@ fn a_full_journal_ends_the_session(rt: HostRuntime) -> Result<(), Fail> {
     for _ in 0..59_999 {
         line.push('a')?;
     }
-    let session = under(alloc, &bounded(alloc, 65_536, 262_144)?, line.as_str())?;
-    let full = Status::JournalFull {
-        used: 60_167,
-        more: 60_220,
-    };
-    assert_eq!(rt; session.status, full);
-    assert_eq!(rt; session.status.exit_code(), 8);
-    assert!(rt; session.sink.bytes().is_empty());
-    assert_eq!(rt; session.journal.events().len(), 2);
+    let told = bounded(alloc, 65_536, 262_144, line.as_str())?;
+    assert_eq!(rt;
+        told.as_str(),
+        "JournalFull { used: 60167, more: 60220 } 2: "
+    );
     Ok(())
 }
 
 #[test]
 fn a_path_too_many_ends_the_session(rt: HostRuntime) -> Result<(), Fail> {
-    let alloc = rt.alloc();
-    let lines = "put /d/a x\nchanged /d/a\nput /d/b y\nwait\n";
-    let session = under(alloc, &bounded(alloc, 65_536, 1)?, lines)?;
-    assert_eq!(rt; session.status, Status::TooManyDocuments);
-    assert_eq!(rt; session.status.exit_code(), 9);
-    assert_eq!(rt; session.sink.bytes(), b"1 ok\n2 ok\n".as_slice());
-    assert_eq!(rt; session.journal.events().len(), 8);
+    let lines = "put /d/a x|changed /d/a|put /d/b y|wait|";
+    let told = bounded(rt.alloc(), 65_536, 1, lines)?;
+    assert_eq!(rt; told.as_str(), "TooManyDocuments 8: 1 ok|2 ok|");
     Ok(())
 }
 
 #[test]
 fn a_failing_sink_ends_the_session(rt: HostRuntime) -> Result<(), Fail> {
-    let alloc = rt.alloc();
-    let words = command(alloc, &["cisvc", "steps", "/"])?;
-    // It takes three bytes, and then fails.
-    let source = SureMemorySource::new(alloc, Text8::of(alloc, b"put /d/a.txt red\n")?);
-    let sink = MemorySink::new(alloc, 3, vec![in alloc; 1]?, 4096)?;
-    let session = run(alloc, &words, source, sink);
-    assert_eq!(rt; session.status, Status::WriteFault);
-    assert_eq!(rt; session.sink.bytes(), b"1 o".as_slice());
-    assert_eq!(rt; session.journal.events().len(), 4);
+    let told = cut_off(rt.alloc(), 1, "put /d/a.txt red|")?;
+    assert_eq!(rt; told.as_str(), "WriteFault 4: 1 o");
+    // in the middle of a list of hits
+    let told = cut_off(rt.alloc(), 9, "put /a red|put /b red|query red|wait|")?;
+    assert_eq!(rt; told.as_str(), "WriteFault 11: 1 ok|2 ok|3 hits 2 at 10|");
     Ok(())
 }
 
 #[test]
 fn a_failing_source_ends_the_session(rt: HostRuntime) -> Result<(), Fail> {
-    let alloc = rt.alloc();
-    let words = command(alloc, &["cisvc", "steps", "/"])?;
-    // It fails at its first call, and at its second.
-    for (fails, printed) in [(0, ""), (1, "1 bad\n")] {
-        let bytes = Text8::of(alloc, b"hello\n")?;
-        let source = MemorySource::new(alloc, bytes, vec![in alloc; fails]?);
-        let sink = SureMemorySink::new(alloc, 4096, 4096)?;
-        let session = run(alloc, &words, source, sink);
-        assert_eq!(rt; session.status, Status::ReadFault);
-        assert_eq!(rt; session.sink.bytes(), printed.as_bytes());
+    for (fails, wanted) in [(0, "ReadFault 0: "), (1, "ReadFault 2: 1 bad|")] {
+        assert_eq!(rt; unread(rt.alloc(), fails, "hello|")?.as_str(), wanted);
+    }
+    Ok(())
+}
+
+#[test]
+fn statuses_have_their_codes(rt: HostRuntime) -> Result<(), Fail> {
+    let rows = [
+        (Status::Done, 0, "Done"),
+        (Status::Usage, 2, "Usage"),
+        (Status::ReadFault, 3, "ReadFault"),
+        (Status::WriteFault, 4, "WriteFault"),
+        (Status::JournalFull { used: 1, more: 2 }, 8, "JournalFull"),
+        (Status::TooManyDocuments, 9, "TooManyDocuments"),
+        (Status::OutOfMemory, 10, "OutOfMemory"),
+        (Status::EndlessLine, 12, "EndlessLine"),
+    ];
+    for (status, code, name) in rows {
+        assert_eq!(rt; status.exit_code(), code);
+        assert_eq!(rt; status.name(), name);
     }
     Ok(())
 }

@@ -6,10 +6,12 @@ mod catalogue;
 #[cfg(test)]
 mod ends;
 #[cfg(test)]
-mod lines;
+mod large;
 #[cfg(test)]
 mod pieces;
 #[cfg(test)]
 mod session;
 #[cfg(test)]
 mod sessions;
+#[cfg(test)]
+mod table;

@@ -13,16 +13,15 @@ use Rattle.ci_journal.specs.Printed.{printed}
 use Rattle.ci_journal.specs.Step.{Run}
 use Rattle.ci_journal.specs.Step.Run.{Empty}
 use Rattle.ci_journal.specs.Terms.{Terms}
-use Rattle.ci_words.specs.Noise.{standard_noise}
 use Rattle.ci_core.specs.Core.{Core}
 use Rattle.ci_core.specs.Fixed.{Fixed, HasFixed}
 use Rattle.ci_server.specs.declared.status.Status.{Status}
 use Rattle.ci_server.specs.declared.status.Status.TheVariants.{Done, Usage, ReadFault, WriteFault, JournalFull, TooManyDocuments, OutOfMemory, EndlessLine}
-use Rattle.ci_server.specs.Course.{Course, IsTold}
+use Rattle.ci_server.specs.Course.{Course, IsTold, told_of}
 use Rattle.ci_server.specs.Progress.{Ends, FitsLine}
 use Rattle.ci_server.specs.Requests.{requests}
 use Rattle.ci_server.specs.Served.{IsBetween}
-use Rattle.ci_server.specs.Session.{EndsByQuit, AsksFirst, InTurns, Standard, EndsWellOrStarves, IsCrowdedAt, IsFullAt, ComesTooLong}
+use Rattle.ci_server.specs.Session.{EndsByQuit, AsksFirst, InTurns, EndsWell, IsCrowdedAt, IsFullAt}
 use Rattle.ci_server.specs.Turns.Turns.{None as no_turns}
 use Rattle.ci_server.specs.Turns.{Turns}
 use Rattle.ci_server.proofs.ProgressLemmas.{Progress-none, Ends-stop}
@@ -69,8 +68,8 @@ course fixed first now core status = record {
 }
 
 pub IsTold-ends : (first : Reading) (start : Core) (now : Reading) (core : Core) (fixed : Fixed) (status : Status) → HasFixed fixed start → Ends first start now core status → Run core.terms core.sheet.events
-    → IsTold (course fixed first now core status)
-IsTold-ends first start now core fixed status has ends run =
+    → journal_bytes core.sheet.events ≤ core.sheet.limit → IsTold (course fixed first now core status)
+IsTold-ends first start now core fixed status has ends run within =
     let at = λ (s : Status) (is : status ≡ s). subst (Ends first start now core) is ends in
     let all = fits first start now core fixed has status ends in
     record {
@@ -92,6 +91,7 @@ IsTold-ends first start now core fixed status has ends run =
       journal_full = λ used more is. journal_full first start now core fixed has used more (at (JournalFull used more) is);
       crowded = λ is. crowded first start now core fixed has (at TooManyDocuments is);
       bounded = bounded first start now core fixed has status ends;
+      within = subst (λ n. journal_bytes core.sheet.events ≤ n) (has_now first start now core fixed has status ends).limit within;
       endless = λ is. endless first start now core (at EndlessLine is);
     }
 
@@ -110,7 +110,7 @@ pub turns-idle : (journal : List Event) → journal ≡ [] → InTurns journal
 turns-idle journal none = record { whole = []; turns = ([], no_turns); front = []; events = none; cut = inl refl }
 
 pub lines-idle : (bytes : Option (List ℕ)) (journal : List Event) → journal ≡ [] → AsksFirst bytes journal
-lines-idle None journal none = tt
+lines-idle None journal none = subst (λ es. AsksFirst None es) (sym none) tt
 lines-idle (Some all) journal none = (requests all, ap (λ es. asked es ++ requests all) (sym none))
 
 pub printed-idle : (written : Option (List ℕ)) (journal : List Event) → journal ≡ [] → Appends written written (printed journal)
@@ -123,9 +123,8 @@ quit-idle journal none quits = let never : None ≡ Some request.Quit = sym (ap 
 pub bounded-idle : (most : ℕ) (journal : List Event) → journal ≡ [] → length (numbered journal) ≤ most
 bounded-idle most journal none = subst (λ es. length (numbered es) ≤ most) (sym none) (omega arith)
 
--- under the standard list itself
-pub Standard-own : (Holds : Terms → Type 0) → Holds (record { noise = standard_noise }) → Standard Holds
-Standard-own Holds holds = (standard_noise, λ word. (λ here. here, λ here. here), holds)
+pub within-idle : (limit : ℕ) (journal : List Event) → journal ≡ [] → journal_bytes journal ≤ limit
+within-idle limit journal none = subst (λ es. journal_bytes es ≤ limit) (sym none) (omega arith)
 
 -- for want of memory
 pub IsTold-idle : (c : Course) → c.journal ≡ [] → c.status ≡ OutOfMemory → c.written_after ≡ c.written → IsTold c
@@ -148,23 +147,24 @@ IsTold-idle c none starves kept = record {
   journal_full = λ used more is. absurd (cc);
   crowded = λ is. absurd (cc);
   bounded = bounded-idle c.most c.journal none;
+  within = within-idle c.limit c.journal none;
   endless = λ is. absurd (cc);
 }
 
 -- ---- a session without any cause ends well
 
-good_status : (status : Status) → status ≢ Usage → status ≢ ReadFault → status ≢ WriteFault → ((used more : ℕ) → status ≢ JournalFull used more) → status ≢ TooManyDocuments → status ≢ EndlessLine → EndsWellOrStarves status
-good_status Done usage read write full many long = inl refl
-good_status OutOfMemory usage read write full many long = inr refl
-good_status Usage usage read write full many long = absurd (usage refl)
-good_status ReadFault usage read write full many long = absurd (read refl)
-good_status WriteFault usage read write full many long = absurd (write refl)
-good_status (JournalFull used more) usage read write full many long = absurd (full used more refl)
-good_status TooManyDocuments usage read write full many long = absurd (many refl)
-good_status EndlessLine usage read write full many long = absurd (long refl)
+good_status : (status : Status) → status ≢ Usage → status ≢ ReadFault → status ≢ WriteFault → ((used more : ℕ) → status ≢ JournalFull used more) → status ≢ TooManyDocuments → EndsWell status
+good_status Done usage read write full many = inl refl
+good_status OutOfMemory usage read write full many = inr (inl refl)
+good_status EndlessLine usage read write full many = inr (inr refl)
+good_status Usage usage read write full many = absurd (usage refl)
+good_status ReadFault usage read write full many = absurd (read refl)
+good_status WriteFault usage read write full many = absurd (write refl)
+good_status (JournalFull used more) usage read write full many = absurd (full used more refl)
+good_status TooManyDocuments usage read write full many = absurd (many refl)
 
-pub complete : (c : Course) → IsTold c → (Rose c.read_faults c.read_faults_after → ⊥) → (Rose c.write_faults c.write_faults_after → ⊥) → ((used more : ℕ) → IsFullAt c.terms c.limit c.journal used more → ⊥)
-    → (IsCrowdedAt c.terms c.most c.journal → ⊥) → (ComesTooLong c.bytes c.journal → ⊥) → EndsWellOrStarves c.status
-complete c told read write full many long =
+pub complete : (c : Course) → IsTold c → (Rose c.read_faults c.read_faults_after → ⊥) → (Rose c.write_faults c.write_faults_after → ⊥) → ((used more : ℕ) → IsFullAt (told_of c) c.journal used more → ⊥)
+    → (IsCrowdedAt (told_of c) c.journal → ⊥) → EndsWell c.status
+complete c told read write full many =
     good_status c.status told.usage (λ is. read (told.read_fault is)) (λ is. write (told.write_fault is)) (λ used more is. full used more (told.journal_full used more is))
-    (λ is. many (told.crowded is)) (λ is. long (told.endless is))
+    (λ is. many (told.crowded is))

@@ -1,5 +1,5 @@
 -- The steps of a request that notes a document, as far as they come.
-use Rattle.std.proofs.Common.{arith, ◌≡◌, ◌≤◌, ◌+◌, ◌∙◌, ℕ, false, List, [], ◌∷◌, ◌++◌, length, Ok, Some, None, refl, ap}
+use Rattle.std.proofs.Common.{arith, ◌≡◌, ◌≤◌, ◌+◌, ◌∙◌, ℕ, false, List, [], ◌∷◌, ◌++◌, length, Ok, Err, Some, None, refl, ap, subst, sym}
 use Rattle.std.specs.Prelude.{IsErrOf}
 use Rattle.std.proofs.lemmas.List.{length_push}
 use Rattle.ci_base.specs.declared.numbers.Seq.{Seq}
@@ -17,10 +17,11 @@ use Rattle.ci_journal.specs.Folds.{latest, notices}
 use Rattle.ci_journal.specs.Step.{MayPut}
 use Rattle.ci_journal.proofs.FoldsLemmas.{latest-noted, notices-push}
 use Rattle.ci_core.specs.declared.core_fault.CoreFault.{CoreFault}
-use Rattle.ci_core.specs.declared.core_fault.CoreFault.TheVariants.{TooManyDocuments}
+use Rattle.ci_core.specs.declared.core_fault.CoreFault.TheVariants.{JournalFull, TooManyDocuments}
 use Rattle.ci_core.specs.Changes.{event, noted}
 use Rattle.ci_core.specs.Core.{Core}
 use Rattle.ci_core.specs.Fixed.{KeepsFixed}
+use Rattle.ci_core.specs.Refusals.{IsCrowded}
 use Rattle.ci_core.specs.Steps.{IsUnrefused, Makes}
 use Rattle.ci_server.specs.Served.{ServesSteps}
 use Rattle.ci_server.specs.Stops.{IsSound}
@@ -35,6 +36,16 @@ pub noted-at : (old a : Core) (path : List ℕ) (seq : Seq) (what : What) → Is
 noted-at old a path seq what sound next makes unrefused keeps crowded =
     IsAt-step old old a [] (noted 0 path seq.0 what) (IsAt-none old sound)
     (step-noted old a path seq what sound next makes unrefused keeps (λ none new full. let never = crowded none new full in cc))
+
+-- where it was refused for a full journal, it noted no path too many
+pub uncrowded-note : (core : Core) (path : List ℕ) (number : ℕ) (what : What) (by : ℕ) (fault : CoreFault) → core.refusal ≡ None
+    → (core.refusal ≡ None → is_numbered core.numbered path ≡ false → core.most ≤ length core.numbered → IsErrOf {T = Seq} {E = CoreFault} (Err fault) TooManyDocuments)
+    → (used more : ℕ) → fault ≡ JournalFull used more → IsCrowded core (noted by path number what) → ⊥
+uncrowded-note core path number what by fault none crowded used more full crowd =
+    let same : path ≡ crowd.notice.path = let is = crowd.notes in cc in
+    let told = crowded none (subst (λ p. is_numbered core.numbered p ≡ false) (sym same) crowd.new_path) crowd.many in
+    let is : fault ≡ JournalFull used more = full in
+    cc
 
 -- the reply came last
 pub replied-serves : (old a new : Core) (id : ℕ) (request : Request) (reply : Reply) (steps : List Event) → IsAt old a steps → Makes a new (event 0 (Said id reply)) → IsUnrefused a new → KeepsFixed a new

@@ -1,11 +1,12 @@
 -- One line that was read, or wasn't.
-use Rattle.std.proofs.Common.{◌≡◌, ◌∙◌, ◌+◌, ℕ, Bool, true, false, not, List, [], ◌∷◌, ◌++◌, Option, Some, None, length, map, Contains, ⊎_elim, inl, inr, refl, ap, sym, subst, append-nil, append_assoc}
+use Rattle.std.proofs.Common.{◌≡◌, ◌∙◌, ◌+◌, ℕ, Bool, true, false, not, List, [], ◌∷◌, ◌++◌, Option, Some, None, length, map, Contains, ⊎_elim, inl, inr, refl, ap, sym, subst, append-nil, append_assoc, arith, nat_le, if◌then◌else◌}
+use Rattle.std.proofs.lemmas.Bool.Decides.{nat_tests}
 use Rattle.ci_io.specs.declared.line.Line.{Line}
 use Rattle.ci_io.specs.declared.line.Line.TheVariants as line
 use Rattle.ci_io.specs.declared.read_fault.ReadFault.{ReadFault as LineFault}
 use Rattle.ci_io.specs.declared.read_fault.ReadFault.TheVariants as read
 use Rattle.ci_io.specs.Causes.{Rose}
-use Rattle.ci_io.specs.Lines.{HasNoFeed}
+use Rattle.ci_io.specs.Lines.{HasNoFeed, raw_lines}
 use Rattle.ci_io.specs.ReadLine as reader
 use Rattle.ci_io.specs.Reading.{Reading, BeginsTooLong, IsBeforeEnd, IsEndless, IsShort, Loses, TakesAll, TakesFed, TakesLine, ahead}
 use Rattle.ci_keys.proofs.OneForm.{Contains-cons_cases, Contains-first, Contains-later}
@@ -18,7 +19,7 @@ use Rattle.ci_core.specs.Core.{Core}
 use Rattle.ci_server.specs.declared.status.Status.{Status}
 use Rattle.ci_server.specs.declared.status.Status.TheVariants.{Done, Usage, ReadFault, WriteFault, JournalFull, TooManyDocuments, OutOfMemory, EndlessLine}
 use Rattle.ci_server.specs.Progress.{FitsLine, GoesOn, ServesLine, StopsAt}
-use Rattle.ci_server.specs.Requests.{Reads, Feeds, is_end, is_quit, line_request, requests_behind, through_quit, with_feed}
+use Rattle.ci_server.specs.Requests.{Reads, Feeds, before_endless, is_end, is_quit, line_request, requests_behind, through_quit, with_feed}
 use Rattle.ci_server.specs.Served.{FitsTurn, ServesTurn, StopsTurn}
 use Rattle.ci_server.specs.Status.{refusal_told, status_of_read}
 use Rattle.ci_server.specs.Stops.{IsSound, StopsIn}
@@ -30,7 +31,9 @@ Reads-line : (old new : Option (List ℕ)) (given : Line) → TakesLine old new 
 Reads-line None new given takes = tt
 Reads-line (Some all) None given takes = absurd takes
 Reads-line (Some all) (Some rest) given takes =
-    ap (λ ls. through_quit (map line_request ls)) takes.3.first ∙ ap (λ l. request_of l ∷ requests_behind (is_quit (request_of l)) rest) (sym takes.2)
+    let ends : nat_le 1073741824 (length takes.0) ≡ false = grind (arith, nat_tests, takes.1) in
+    ap (λ ls. through_quit (map line_request (before_endless ls))) takes.3.first
+    ∙ ap (λ (b : Bool). through_quit (map line_request (if b then [] else takes.0 ∷ before_endless (raw_lines rest)))) ends ∙ ap (λ l. request_of l ∷ requests_behind (is_quit (request_of l)) rest) (sym takes.2)
 
 -- a line whose line feed was taken
 Feeds-line : (old new : Option (List ℕ)) (given : Line) → TakesFed old new given → Feeds old new (request_of given ∷ [])
@@ -59,7 +62,7 @@ IsShort-given line.Long short = tt
 IsShort-given line.End short = tt
 
 -- a line was read
-module _ (before now : Reading) (given : Line) (some : is_end given ≡ false) (gives : reader.Gives before now given) (old new : Core) where
+module _ (before now : Reading) (given : Line) (some : is_end given ≡ false) (gives : reader.Gives before now given) (short : IsShort given) (old new : Core) where
   pub GoesOn-served : (now.ended ≡ false → reader.Feeds before now given) → (now.ended ≡ true → TakesAll before now) → (before.ended ≡ true → now.ended ≡ true) → now.faults ≡ before.faults
       → ServesTurn old new (length (asked old.sheet.events) + 1) (request_of given) → (quits : Bool) → quits ≡ is_quit (request_of given) → GoesOn before now old new (not quits)
   GoesOn-served feeds takes_all stays_ended faults serves quits quits_is = by quits (sym quits_is)
@@ -67,6 +70,7 @@ module _ (before now : Reading) (given : Line) (some : is_end given ≡ false) (
       line_served : (quit : Bool) → is_quit (request_of given) ≡ quit → ServesLine before now old new quit
       line_served quit is = record {
         request = request_of given;
+        of_line = (given, short, refl);
         quits = is;
         reads = subst (Reads (ahead before) (ahead now) (request_of given ∷ [])) is (Reads-line (ahead before) (ahead now) given (takes_given before now given some gives));
         feeds = λ open_now. Feeds-line (ahead before) (ahead now) given (fed_given before now given some (feeds open_now));
@@ -84,7 +88,7 @@ module _ (before now : Reading) (given : Line) (some : is_end given ≡ false) (
   pub StopsIn-line : (refusal : CoreFault) → StopsTurn old new (length (asked old.sheet.events) + 1) (request_of given) refusal → StopsIn (FitsLine (ahead before) old.sheet.events) old new refusal
   StopsIn-line refusal stops =
       StopsIn-map (FitsTurn old.sheet.events (length (asked old.sheet.events) + 1) (request_of given)) (FitsLine (ahead before) old.sheet.events)
-      (λ journal fits. inr (request_of given, ahead now, Reads-line (ahead before) (ahead now) given (takes_given before now given some gives), fits)) old old new refusal (Remains-refl old) stops
+      (λ journal fits. inr (request_of given, ahead now, Reads-line (ahead before) (ahead now) given (takes_given before now given some gives), (given, short, refl), fits)) old old new refusal (Remains-refl old) stops
 
 -- the status tells the refusal
 pub StopsAt-step : (before now : Reading) (old new : Core) (refusal : CoreFault) (status : Status) → refusal_told status ≡ Some refusal → StopsIn (FitsLine (ahead before) old.sheet.events) old new refusal → StopsAt before now old new status

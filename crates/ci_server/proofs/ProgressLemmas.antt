@@ -18,7 +18,7 @@ use Rattle.ci_core.specs.Core.{Core}
 use Rattle.ci_server.specs.declared.status.Status.{Status}
 use Rattle.ci_server.specs.declared.status.Status.TheVariants.{Done, Usage, ReadFault, WriteFault, JournalFull, TooManyDocuments, OutOfMemory, EndlessLine}
 use Rattle.ci_server.specs.Progress.{Ends, FindsEnd, FitsLine, FitsSession, Progress, ServesLine, StopsAt}
-use Rattle.ci_server.specs.Requests.{Reads, Feeds, is_quit, requests, requests_behind, line_request, with_feed}
+use Rattle.ci_server.specs.Requests.{IsOfLine, Reads, Feeds, is_quit, requests, requests_behind, line_request, with_feed}
 use Rattle.ci_server.specs.Served.{IsBetween}
 use Rattle.ci_server.specs.Session.{AsksFirst}
 use Rattle.ci_server.specs.Stops.{StopsIn}
@@ -43,7 +43,7 @@ Feeds-none : (told : Option (List ℕ)) → Feeds told told []
 Feeds-none None = tt
 Feeds-none (Some all) = record { raws = []; whole = refl; each = tt; requests_are = refl }
 
-All-append : (P : List ℕ → Type 0) (xs ys : List (List ℕ)) → AllByRecursion P xs → AllByRecursion P ys → AllByRecursion P (xs ++ ys)
+All-append : {X : Type 0} (P : X → Type 0) (xs ys : List X) → AllByRecursion P xs → AllByRecursion P ys → AllByRecursion P (xs ++ ys)
 All-append P [] ys one other = other
 All-append P (x ∷ xs) ys one other = (one.0, All-append P xs ys one.1 other)
 
@@ -82,6 +82,7 @@ pub Progress-none : (first : Reading) (start : Core) → start.sheet.events ≡ 
 Progress-none first start fresh between = record {
   served = [];
   turns = subst (λ es. Turns es []) (sym fresh) no_turns;
+  of_lines = tt;
   remains = Remains-refl start;
   between = between;
   reads = Reads-none (ahead first);
@@ -97,6 +98,7 @@ Progress-line first start before mid now core quit progress served_line = record
   served = progress.served ++ served_line.request ∷ [];
   turns = subst (λ es. Turns es (progress.served ++ served_line.request ∷ [])) (sym served_line.serves.events_are)
       (Turn mid.sheet.events progress.served (length (asked mid.sheet.events) + 1) served_line.request served_line.serves.events progress.turns served_line.serves.turn);
+  of_lines = All-append IsOfLine progress.served (served_line.request ∷ []) progress.of_lines (served_line.of_line, tt);
   remains = Remains-trans start mid core progress.remains served_line.serves.remains;
   between = served_line.serves.between;
   reads = Reads-append (ahead first) (ahead before) (ahead now) progress.served (served_line.request ∷ []) quit progress.reads served_line.reads;
@@ -123,14 +125,14 @@ asked-turns _ _ (Turn journal served id request events turns turn) =
     one = ap asked turn.events_are ∙ ap (λ rs. request ∷ rs) (asked-steps (journal ++ event 0 (Asked id request) ∷ []) id request turn.steps turn.made)
 
 -- whole turns of the lines that were read
-pub FitsSession-whole : (all left : Option (List ℕ)) (quit : Bool) (journal : List Event) (served : List Request) → Turns journal served → Reads all left served quit → FitsSession all journal
-FitsSession-whole all left quit journal served turns reads = record {
+pub FitsSession-whole : (all left : Option (List ℕ)) (quit : Bool) (journal : List Event) (served : List Request) → Turns journal served → AllByRecursion IsOfLine served → Reads all left served quit → FitsSession all journal
+FitsSession-whole all left quit journal served turns of_lines reads = record {
   turns = record { whole = journal; turns = (served, turns); front = []; events = sym (append-nil journal); cut = inl refl };
   lines = by all left reads;
 }
   where
     by : (all left : Option (List ℕ)) → Reads all left served quit → AsksFirst all journal
-    by None left reads = tt
+    by None left reads = subst (λ rs. AllByRecursion IsOfLine rs) (sym (asked-turns journal served turns)) of_lines
     by (Some all) None reads = absurd reads
     by (Some all) (Some rest) reads = (requests_behind quit rest, reads ∙ ap (λ rs. rs ++ requests_behind quit rest) (sym (asked-turns journal served turns)))
 
@@ -147,22 +149,24 @@ asked-front journal id request front fits =
     (λ made. none_front (asked begun.0) (asked begun.1.rest) (sym (asked-append begun.0 begun.1.rest) ∙ asked-steps (journal ++ event 0 (Asked id request) ∷ []) id request (begun.0 ++ begun.1.rest) made)) begun.1.made))) fits
 
 -- and behind them the first events of the next line's turn
-FitsSession-line : (all left : Option (List ℕ)) (before : List Event) (served : List Request) → Turns before served → Reads all left served false → (journal : List Event) → FitsLine left before journal → FitsSession all journal
-FitsSession-line all left before served turns reads journal fits =
-    ⊎_elim (λ same. subst (FitsSession all) (sym same) (FitsSession-whole all left false before served turns reads))
+FitsSession-line : (all left : Option (List ℕ)) (before : List Event) (served : List Request) → Turns before served → AllByRecursion IsOfLine served → Reads all left served false → (journal : List Event) → FitsLine left before journal → FitsSession all journal
+FitsSession-line all left before served turns of_lines reads journal fits =
+    ⊎_elim (λ same. subst (FitsSession all) (sym same) (FitsSession-whole all left false before served turns of_lines reads))
     (λ begun. let id = length (asked before) + 1 in
     record {
-      turns = record { whole = before; turns = (served, turns); front = begun.3.0; events = begun.3.2; cut = inr (id, begun.0, begun.3.1) };
-      lines = by all left begun.1 begun.0 begun.3.0 reads begun.2
-          (ap asked begun.3.2 ∙ asked-append before begun.3.0 ∙ ap (λ rs. rs ++ asked begun.3.0) (asked-turns before served turns)) (asked-front before id begun.0 begun.3.0 begun.3.1);
+      turns = record { whole = before; turns = (served, turns); front = begun.4.0; events = begun.4.2; cut = inr (id, begun.0, begun.4.1) };
+      lines = by all left begun.1 begun.0 begun.4.0 begun.3 reads begun.2
+          (ap asked begun.4.2 ∙ asked-append before begun.4.0 ∙ ap (λ rs. rs ++ asked begun.4.0) (asked-turns before served turns)) (asked-front before id begun.0 begun.4.0 begun.4.1);
     }) fits
   where
-    by : (all left rest : Option (List ℕ)) (next : Request) (front : List Event) → Reads all left served false → Reads left rest (next ∷ []) (is_quit next) → asked journal ≡ served ++ asked front
+    by : (all left rest : Option (List ℕ)) (next : Request) (front : List Event) → IsOfLine next → Reads all left served false → Reads left rest (next ∷ []) (is_quit next) → asked journal ≡ served ++ asked front
         → (asked front ≡ []) ⊎ (asked front ≡ next ∷ []) → AsksFirst all journal
-    by None left rest next front reads line asks either = tt
-    by (Some all) None rest next front reads line asks either = absurd reads
-    by (Some all) (Some mid) None next front reads line asks either = absurd line
-    by (Some all) (Some mid) (Some rest) next front reads line asks either =
+    by None left rest next front of_line reads line asks either =
+        ⊎_elim (λ none. subst (λ rs. AllByRecursion IsOfLine rs) (sym (asks ∙ ap (λ rs. served ++ rs) none ∙ append-nil served)) of_lines)
+        (λ one. subst (λ rs. AllByRecursion IsOfLine rs) (sym (asks ∙ ap (λ rs. served ++ rs) one)) (All-append IsOfLine served (next ∷ []) of_lines (of_line, tt))) either
+    by (Some all) None rest next front of_line reads line asks either = absurd reads
+    by (Some all) (Some mid) None next front of_line reads line asks either = absurd line
+    by (Some all) (Some mid) (Some rest) next front of_line reads line asks either =
         ⊎_elim (λ none. (requests mid, reads ∙ ap (λ rs. rs ++ requests mid) (sym (asks ∙ ap (λ rs. served ++ rs) none ∙ append-nil served))))
         (λ one. (
           requests_behind (is_quit next) rest,
@@ -174,7 +178,7 @@ in_session : (first : Reading) (start : Core) (before : Reading) (mid core : Cor
     → StopsIn (FitsSession (ahead first)) start core refusal
 in_session first start before mid core refusal progress stops =
     StopsIn-map (FitsLine (ahead before) mid.sheet.events) (FitsSession (ahead first))
-    (FitsSession-line (ahead first) (ahead before) mid.sheet.events progress.served progress.turns progress.reads) start mid core refusal progress.remains stops
+    (FitsSession-line (ahead first) (ahead before) mid.sheet.events progress.served progress.turns progress.of_lines progress.reads) start mid core refusal progress.remains stops
 
 -- the source had ended behind the last line
 pub Ends-over : (first : Reading) (start : Core) (before now : Reading) (mid core : Core) → Progress first start before mid false → FindsEnd before now mid core → Ends first start now core Done

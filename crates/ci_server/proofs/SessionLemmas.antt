@@ -17,8 +17,8 @@ use Rattle.ci_core.specs.Fixed.{Fixed, HasFixed, PrintsAfter, PrintsAll}
 use Rattle.ci_server.specs.declared.status.Status.{Status}
 use Rattle.ci_server.specs.declared.status.Status.TheVariants.{Done, Usage, ReadFault, WriteFault, JournalFull, TooManyDocuments, OutOfMemory, EndlessLine}
 use Rattle.ci_server.specs.Progress.{Ends, FitsSession, Progress}
-use Rattle.ci_server.specs.Session.{EndsBetween, InTurns, IsCrowdedAt, IsFullAt, IsWhole, PrintsCut}
-use Rattle.ci_server.specs.Stops.{StopsIn}
+use Rattle.ci_server.specs.Session.{AsksFirst, ComesNext, EndsBetween, InTurns, IsCrowdedAt, IsFullAt, IsWhole, PrintsCut, Told}
+use Rattle.ci_server.specs.Stops.{IsNext, StopsIn}
 use Rattle.ci_server.proofs.ProgressLemmas.{FitsSession-whole}
 use Rattle.ci_server.proofs.StepLemmas.{numbered-push}
 use Rattle.ci_server.proofs.StopLemmas.{Fits-stops}
@@ -44,11 +44,15 @@ same_numbered Fits start core refusal.WriteFault stops =
     ap numbered stops.halts.3 ∙ numbered-push stops.mid.sheet.events stops.halts.0 ∙ rw (no_notice stops.halts.0.what stops.halts.2) refl
 same_numbered Fits start core refusal.Ended stops = absurd stops.halts
 
+-- what a session with this fixed part was told at its start
+abbrev pub told_at_start : Fixed → Reading → Told
+told_at_start fixed first = record { terms = fixed.terms; limit = fixed.limit; most = fixed.most; bytes = ahead first }
+
 module _ (first : Reading) (start : Core) (now : Reading) (core : Core) (fixed : Fixed) (has : HasFixed fixed start) where
   -- ---- a session that ended between two turns
   module _ (at : Reading) (quit : Bool) (progress : Progress first start at core quit) where
     fits-whole : FitsSession (ahead first) core.sheet.events
-    fits-whole = FitsSession-whole (ahead first) (ahead at) quit core.sheet.events progress.served progress.turns progress.reads
+    fits-whole = FitsSession-whole (ahead first) (ahead at) quit core.sheet.events progress.served progress.turns progress.of_lines progress.reads
 
     whole-whole : IsWhole core.sheet.events
     whole-whole = (progress.served, progress.turns)
@@ -132,36 +136,56 @@ module _ (first : Reading) (start : Core) (now : Reading) (core : Core) (fixed :
       let cut = ends.prints fixed has in
       record { front = cut.front; last = cut.last; events = cut.events; count = cut.count; short = cut.short; written = cut.written }
 
+  -- the event that was refused comes next behind the journal
+  comes_next : (fault : CoreFault) (stops : StopsIn (FitsSession (ahead first)) start core fault) (event : Event) → IsNext (FitsSession (ahead first)) stops.mid event → core.sheet.events ≡ stops.mid.sheet.events
+      → ComesNext (told_at_start fixed first) core.sheet.events event
+  comes_next fault stops event next same = record {
+    may = subst (λ es. May fixed.terms es event.by event.what) (sym same) (subst (λ (t : Terms). May t stops.mid.sheet.events event.by event.what) (terms-cut fault stops) next.may);
+    in_turn = subst (λ es. InTurns (es ++ event ∷ [])) (sym same) next.fits.turns;
+    lines = subst (λ es. AsksFirst (ahead first) (es ++ event ∷ [])) (sym same) next.fits.lines;
+  }
+
+  -- the paths that are numbered are those that the journal notes
+  same_paths : (fault : CoreFault) (stops : StopsIn (FitsSession (ahead first)) start core fault) → core.sheet.events ≡ stops.mid.sheet.events → numbered core.sheet.events ≡ stops.mid.numbered
+  same_paths fault stops same = ap numbered same ∙ sym stops.sound.numbered
+
   -- a full journal: the next event of the turn is above the bound
-  pub journal_full : (used more : ℕ) → Ends first start now core (JournalFull used more) → IsFullAt fixed.terms fixed.limit core.sheet.events used more
+  pub journal_full : (used more : ℕ) → Ends first start now core (JournalFull used more) → IsFullAt (told_at_start fixed first) core.sheet.events used more
   journal_full used more ends =
+      let fault = refusal.JournalFull used more in
       let event = ends.halts.0 in
-      let next = ends.halts.1 in
       let full = ends.halts.2 in
       let same : core.sheet.events ≡ ends.mid.sheet.events = full.stays.events in
+      let paths = same_paths fault ends same in
       record {
         event = event;
-        may = subst (λ es. May fixed.terms es event.by event.what) (sym same) (subst (λ (t : Terms). May t ends.mid.sheet.events event.by event.what) (terms-cut (refusal.JournalFull used more) ends) next.may);
-        in_turn = subst (λ es. InTurns (es ++ event ∷ [])) (sym same) next.fits.turns;
+        next = comes_next fault ends event ends.halts.1 same;
         counted = full.counted ∙ ap journal_bytes (sym same);
         wanted = full.wanted;
         over = subst (λ n. n < used + more) (ends.remains.limit ∙ has.limit) full.over;
+        room = λ many. ends.halts.3 (record {
+          notice = many.notice;
+          notes = many.notes;
+          new_path = subst (λ ps. is_numbered ps many.notice.path ≡ false) paths many.new_path;
+          many = omega (arith, many.many, ap length paths, most-cut fault ends);
+        });
       }
 
   -- too many documents: the next event of the turn notes one more
-  pub crowded : Ends first start now core TooManyDocuments → IsCrowdedAt fixed.terms fixed.most core.sheet.events
+  pub crowded : Ends first start now core TooManyDocuments → IsCrowdedAt (told_at_start fixed first) core.sheet.events
   crowded ends =
+      let fault = refusal.TooManyDocuments in
       let event = ends.halts.0 in
-      let next = ends.halts.1 in
       let crowd = ends.halts.2 in
       let same : core.sheet.events ≡ ends.mid.sheet.events = ends.halts.3 in
-      let paths : numbered core.sheet.events ≡ ends.mid.numbered = ap numbered same ∙ sym ends.sound.numbered in
+      let paths = same_paths fault ends same in
       record {
         event = event;
-        may = subst (λ es. May fixed.terms es event.by event.what) (sym same) (subst (λ (t : Terms). May t ends.mid.sheet.events event.by event.what) (terms-cut refusal.TooManyDocuments ends) next.may);
-        in_turn = subst (λ es. InTurns (es ++ event ∷ [])) (sym same) next.fits.turns;
-        notice = crowd.notice;
-        notes = crowd.notes;
-        new_path = subst (λ ps. is_numbered ps crowd.notice.path ≡ false) (sym paths) crowd.new_path;
-        many = omega (arith, crowd.many, ap length paths, most-cut refusal.TooManyDocuments ends);
+        next = comes_next fault ends event ends.halts.1 same;
+        many = record {
+          notice = crowd.notice;
+          notes = crowd.notes;
+          new_path = subst (λ ps. is_numbered ps crowd.notice.path ≡ false) (sym paths) crowd.new_path;
+          many = omega (arith, crowd.many, ap length paths, most-cut fault ends);
+        };
       }

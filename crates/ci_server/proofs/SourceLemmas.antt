@@ -55,10 +55,16 @@ AsksTaken-fed (Some all) (Some mid) lost held (Some left) served journal asks fe
     let same : mid ≡ (lost ++ held) ++ left = consumes ∙ sym (append_assoc lost held left) in
     (takes_fed all (lost ++ held) left served journal asks (subst (λ m. Feeds (Some all) (Some m) served) same feeds), unfed)
 
-ComesTooLong-read : (all left : Option (List ℕ)) (served : List Request) (journal : List Event) → asked journal ≡ served → Reads all left served false → BeginsTooLong left → ComesTooLong all journal
-ComesTooLong-read None left served journal asks reads long = tt
-ComesTooLong-read (Some all) None served journal asks reads long = absurd reads
-ComesTooLong-read (Some all) (Some rest) served journal asks reads long = (rest, reads ∙ ap (λ rs. rs ++ requests rest) (sym asks), long)
+-- and that line has more bytes than a line may have
+ComesTooLong-fed : (all before : Option (List ℕ)) (lost held : List ℕ) (left : Option (List ℕ)) (served : List Request) (journal : List Event) → asked journal ≡ served → Feeds all before served
+    → Consumes before (prepend_known held left) lost → HasNoFeed (lost ++ held) → BeginsTooLong before → ComesTooLong all left journal
+unfolding takes_fed
+ComesTooLong-fed None before lost held left served journal asks feeds consumes unfed long = tt
+ComesTooLong-fed (Some all) None lost held left served journal asks feeds consumes unfed long = absurd feeds
+ComesTooLong-fed (Some all) (Some mid) lost held None served journal asks feeds consumes unfed long = absurd consumes
+ComesTooLong-fed (Some all) (Some mid) lost held (Some left) served journal asks feeds consumes unfed long =
+    let same : mid ≡ (lost ++ held) ++ left = consumes ∙ sym (append_assoc lost held left) in
+    (takes_fed all (lost ++ held) left served journal asks (subst (λ m. Feeds (Some all) (Some m) served) same feeds), unfed, subst (λ m. BeginsTooLong (Some m)) same long)
 
 -- a reader that has read nothing has all the source's bytes ahead
 pub ahead-fresh : (left : Option (List ℕ)) → prepend_known [] left ≡ left
@@ -109,10 +115,13 @@ module _ (first : Reading) (start : Core) (now : Reading) (core : Core) where
   pub taken_at_long : Ends first start now core EndlessLine → AsksTaken (ahead first) now.left core.sheet.events
   taken_at_long ends = taken ends.0 ends.1
 
-  pub endless : Ends first start now core EndlessLine → ComesTooLong (ahead first) core.sheet.events
+  pub endless : Ends first start now core EndlessLine → ComesTooLong (ahead first) now.left core.sheet.events
   endless ends =
+      let before = ends.0 in
       let progress = ends.1.progress in
-      ComesTooLong-read (ahead first) (ahead ends.0) progress.served core.sheet.events (asked-turns core.sheet.events progress.served progress.turns) progress.reads ends.2
+      let unread = ends.1.unread in
+      ComesTooLong-fed (ahead first) (ahead before) unread.loses.lost now.held now.left progress.served core.sheet.events (asked-turns core.sheet.events progress.served progress.turns)
+      (progress.feeds unread.before_end) unread.loses.ahead unread.begun ends.2
 
   pub read_fault : Ends first start now core ReadFault → Rose first.faults now.faults
   read_fault ends = subst (λ n. Rose n now.faults) ends.1.progress.faults ends.2

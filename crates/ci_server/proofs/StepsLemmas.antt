@@ -15,7 +15,7 @@ use Rattle.ci_server.specs.Served.{FitsSteps, ServesSteps, StopsSteps}
 use Rattle.ci_server.specs.Stops.{IsSound, Remains}
 use Rattle.ci_server.specs.Turns.{AreSteps, AreFirst}
 use Rattle.ci_server.proofs.StepLemmas.{IsStep, Remains-refl, Remains-trans}
-use Rattle.ci_server.proofs.StopLemmas.{StopsIn-map, StopsIn-refused, StopsIn-starved}
+use Rattle.ci_server.proofs.StopLemmas.{NotesInRoom, StopsIn-map, StopsIn-refused, StopsIn-starved}
 
 -- these steps were made, one after the other
 pub record IsAt (old now : Core) (steps : List Event) : Type 0 where
@@ -52,13 +52,13 @@ MaySay-at old now steps id at none_asked none_replied may =
 module _ (old : Core) (id : ℕ) (request : Request) where
   -- the next of the steps was refused
   pub steps-stop : (now new : Core) (steps : List Event) (e : Event) (rest : List Event) (fault : CoreFault) → IsAt old now steps → AreSteps old.sheet.events id request (steps ++ e ∷ rest)
-      → Refuses now new e fault → KeepsFixed now new → StopsSteps old new id request fault
-  steps-stop now new steps e rest fault at made refuses keeps =
+      → Refuses now new e fault → KeepsFixed now new → NotesInRoom now e fault → StopsSteps old new id request fault
+  steps-stop now new steps e rest fault at made refuses keeps room =
       let F = FitsSteps old.sheet.events id request in
       let made_on = subst (AreSteps old.sheet.events id request) (sym (append_assoc steps (e ∷ []) rest)) made in
       StopsIn-map F F (λ _ fits. fits) old now new fault at.remains
       (StopsIn-refused F now new e fault at.sound (steps, record { rest = e ∷ rest; made = inr made }, at.events)
-      (steps ++ e ∷ [], record { rest = rest; made = inr made_on }, ap (λ es. es ++ e ∷ []) at.events ∙ append_assoc old.sheet.events steps (e ∷ [])) refuses keeps)
+      (steps ++ e ∷ [], record { rest = rest; made = inr made_on }, ap (λ es. es ++ e ∷ []) at.events ∙ append_assoc old.sheet.events steps (e ∷ [])) refuses keeps room)
 
   -- there was no memory for what the next step needs
   pub steps-starve : (now : Core) (steps : List Event) → IsAt old now steps → AreFirst old.sheet.events id request steps → StopsSteps old now id request OutOfMemory

@@ -121,7 +121,7 @@ module _ (old : Core) (asks : Request) (between : IsBetween old) where
   pub turn-halts : (new : Core) (fault : CoreFault) → Refuses old new (event 0 (Asked (length (asked old.sheet.events) + 1) asks)) fault → KeepsFixed old new
       → StopsTurn old new (length (asked old.sheet.events) + 1) asks fault
   turn-halts new fault refuses keeps =
-      StopsIn-refused (FitsTurn old.sheet.events (length (asked old.sheet.events) + 1) asks) old new (event 0 (Asked (length (asked old.sheet.events) + 1) asks)) fault between.sound nothing-fits asking-fits refuses keeps
+      StopsIn-refused (FitsTurn old.sheet.events (length (asked old.sheet.events) + 1) asks) old new (event 0 (Asked (length (asked old.sheet.events) + 1) asks)) fault between.sound nothing-fits asking-fits refuses keeps (inl refl)
 
   -- the asking, with the number that was handed out and the copy that was asked
   module _ (a : Core) (id : ℕ) (copied : Request) (next : id ≡ length (asked old.sheet.events) + 1) (same : copied ≡ asks) (step : IsStep old a (event 0 (Asked id copied))) where

@@ -3,13 +3,14 @@ use Rattle.std.specs.Prelude.{◌≡◌, ◌≢◌, ◌≤◌, ◌⊎◌, ℕ, L
 use Rattle.std.specs.Io.KnownBytes.{Appends, IsAtEnd}
 use Rattle.ci_io.specs.Causes.{Rose}
 use Rattle.ci_journal.specs.declared.event.Event.{Event}
+use Rattle.ci_journal.specs.Bytes.{journal_bytes}
 use Rattle.ci_journal.specs.Completions.{numbered}
 use Rattle.ci_journal.specs.Printed.{printed}
 use Rattle.ci_journal.specs.Step.{Run}
 use Rattle.ci_journal.specs.Terms.{Terms}
 use Rattle.ci_server.specs.declared.status.Status.{Status}
 use Rattle.ci_server.specs.declared.status.Status.TheVariants.{Done, Usage, ReadFault, WriteFault, JournalFull, TooManyDocuments, EndlessLine}
-use Rattle.ci_server.specs.Session.{InTurns, IsWhole, EndsBetween, AsksFirst, AsksAll, AsksBefore, AsksTaken, EndsByQuit, ComesTooLong, PrintsCut, IsFullAt, IsCrowdedAt}
+use Rattle.ci_server.specs.Session.{InTurns, IsWhole, EndsBetween, AsksFirst, AsksAll, AsksBefore, AsksTaken, EndsByQuit, ComesTooLong, PrintsCut, IsFullAt, IsCrowdedAt, Told}
 
 -- the settings, the source and the sink before and after, the status and the journal
 pub record Course : Type 0 where
@@ -26,6 +27,10 @@ pub record Course : Type 0 where
   pub write_faults_after : ℕ
   pub status : Status
   pub journal : List Event
+
+-- what the session was told at its start
+abbrev pub told_of : Course → Told
+told_of c = record { terms = c.terms; limit = c.limit; most = c.most; bytes = c.bytes }
 
 -- each field is the clause of its name
 pub record IsTold (c : Course) : Type 0 where
@@ -44,7 +49,8 @@ pub record IsTold (c : Course) : Type 0 where
   pub usage : c.status ≢ Usage
   pub read_fault : c.status ≡ ReadFault → Rose c.read_faults c.read_faults_after
   pub write_fault : c.status ≡ WriteFault → Rose c.write_faults c.write_faults_after
-  pub journal_full : (used more : ℕ) → c.status ≡ JournalFull used more → IsFullAt c.terms c.limit c.journal used more
-  pub crowded : c.status ≡ TooManyDocuments → IsCrowdedAt c.terms c.most c.journal
+  pub journal_full : (used more : ℕ) → c.status ≡ JournalFull used more → IsFullAt (told_of c) c.journal used more
+  pub crowded : c.status ≡ TooManyDocuments → IsCrowdedAt (told_of c) c.journal
+  pub within : journal_bytes c.journal ≤ c.limit
   pub bounded : length (numbered c.journal) ≤ c.most
-  pub endless : c.status ≡ EndlessLine → ComesTooLong c.bytes c.journal
+  pub endless : c.status ≡ EndlessLine → ComesTooLong c.bytes c.left c.journal

@@ -1,5 +1,6 @@
 -- How far a session has come.
 use Rattle.std.specs.Prelude.{◌≡◌, ◌≢◌, ◌+◌, ℕ, Bool, true, false, List, [], ◌∷◌, ◌++◌, ◌⊎◌, Option, Some, length}
+use Rattle.std.specs.List.{AllByRecursion}
 use Rattle.std.specs.Io.KnownBytes.{IsAtEnd}
 use Rattle.ci_io.specs.Causes.{Rose}
 use Rattle.ci_io.specs.Lines.{HasNoFeed}
@@ -12,7 +13,7 @@ use Rattle.ci_core.specs.declared.core_fault.CoreFault.TheVariants as fault
 use Rattle.ci_core.specs.Core.{Core}
 use Rattle.ci_server.specs.declared.status.Status.{Status}
 use Rattle.ci_server.specs.declared.status.Status.TheVariants.{Done, Usage, ReadFault, WriteFault, JournalFull, TooManyDocuments, OutOfMemory, EndlessLine}
-use Rattle.ci_server.specs.Requests.{is_quit, Reads, Feeds}
+use Rattle.ci_server.specs.Requests.{IsOfLine, is_quit, Reads, Feeds}
 use Rattle.ci_server.specs.Served.{IsBetween, FitsTurn, ServesTurn}
 use Rattle.ci_server.specs.Session.{InTurns, AsksFirst}
 use Rattle.ci_server.specs.Stops.{Remains, StopsIn}
@@ -21,6 +22,7 @@ use Rattle.ci_server.specs.Turns.{Turns}
 -- one line was read, and its request served, which may end the session
 pub record ServesLine (before now : Reading) (old new : Core) (quit : Bool) : Type 0 where
   pub request : Request
+  pub of_line : IsOfLine request
   pub quits : is_quit request ≡ quit
   pub reads : Reads (ahead before) (ahead now) (request ∷ []) quit
   pub feeds : now.ended ≡ false → Feeds (ahead before) (ahead now) (request ∷ [])
@@ -44,7 +46,7 @@ abbrev pub FitsLine : Option (List ℕ) → List Event → List Event → Type 0
 FitsLine left before journal =
     (journal ≡ before)
     ⊎ ((request : Request) × (rest : Option (List ℕ))
-    × Reads left rest (request ∷ []) (is_quit request)
+    × Reads left rest (request ∷ []) (is_quit request) × IsOfLine request
     × FitsTurn before (length (asked before) + 1) request journal)
 
 -- no line was read: at most its beginning was taken, and the source hadn't told its end before
@@ -70,6 +72,7 @@ StopsAt before now old new OutOfMemory = StopsIn (FitsLine (ahead before) old.sh
 pub record Progress (first : Reading) (start : Core) (now : Reading) (core : Core) (quit : Bool) : Type 0 where
   pub served : List Request
   pub turns : Turns core.sheet.events served
+  pub of_lines : AllByRecursion IsOfLine served
   pub remains : Remains start core
   pub between : IsBetween core
   pub reads : Reads (ahead first) (ahead now) served quit

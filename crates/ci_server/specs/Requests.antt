@@ -1,10 +1,10 @@
 -- The requests of some bytes: one for each line, up to and including the first that ends the session.
-use Rattle.std.specs.Prelude.{◌≡◌, ⊤, ℕ, Bool, true, false, List, [], ◌∷◌, ◌++◌, Option, Some, None, map, flat_map, if◌then◌else◌}
+use Rattle.std.specs.Prelude.{◌≡◌, ⊤, ℕ, Bool, true, false, List, [], ◌∷◌, ◌++◌, Option, Some, None, length, map, flat_map, nat_le, if◌then◌else◌}
 use Rattle.std.specs.List.{AllByRecursion}
 use Rattle.ci_io.specs.declared.line.Line.{Line}
 use Rattle.ci_io.specs.declared.line.Line.TheVariants as line
 use Rattle.ci_io.specs.Lines.{raw_lines, HasNoFeed}
-use Rattle.ci_io.specs.Reading.{line_of}
+use Rattle.ci_io.specs.Reading.{IsShort, line_of}
 use Rattle.ci_journal.specs.declared.request.Request.{Request}
 use Rattle.ci_journal.specs.declared.request.Request.TheVariants.{Changed, Deleted, Put, Query, Pending, Wait, Quit, Bad, Long}
 use Rattle.ci_journal.specs.Requests.{request_of}
@@ -30,8 +30,17 @@ abbrev pub through_quit : List Request → List Request
 through_quit [] = []
 through_quit (request ∷ rest) = request ∷ (if is_quit request then [] else through_quit rest)
 
+-- the lines before the first that is endless: that many bytes are no line, and nothing behind them is read
+abbrev pub before_endless : List (List ℕ) → List (List ℕ)
+before_endless [] = []
+before_endless (raw ∷ rest) = if nat_le 1073741824 (length raw) then [] else raw ∷ before_endless rest
+
 abbrev pub requests : List ℕ → List Request
-requests bytes = through_quit (map line_request (raw_lines bytes))
+requests bytes = through_quit (map line_request (before_endless (raw_lines bytes)))
+
+-- a line asks for it whose text is as long as a text may be, at most
+abbrev pub IsOfLine : Request → Type 0
+IsOfLine request = (given : Line) × IsShort given × (request ≡ request_of given)
 
 -- the requests of the bytes behind a line, which may have ended the session
 abbrev pub requests_behind : Bool → List ℕ → List Request

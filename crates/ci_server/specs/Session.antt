@@ -14,10 +14,11 @@ use Rattle.ci_journal.specs.Folds.{asked, last_of, notice_in}
 use Rattle.ci_journal.specs.Printed.{lines_of, printed}
 use Rattle.ci_journal.specs.Step.{May}
 use Rattle.ci_journal.specs.Terms.{Terms}
-use Rattle.ci_words.specs.Noise.{SameWords, standard_noise}
+use Rattle.ci_core.specs.declared.settings.Settings.{Settings}
+use Rattle.ci_words.specs.Noise.{standard_noise}
 use Rattle.ci_server.specs.declared.status.Status.{Status}
 use Rattle.ci_server.specs.declared.status.Status.TheVariants.{Done, Usage, ReadFault, WriteFault, JournalFull, TooManyDocuments, OutOfMemory, EndlessLine}
-use Rattle.ci_server.specs.Requests.{requests, line_request, with_feed}
+use Rattle.ci_server.specs.Requests.{IsOfLine, requests, line_request, with_feed}
 use Rattle.ci_server.specs.Turns.{IsTurnFront, Turns}
 
 -- whole turns, of these requests
@@ -32,9 +33,10 @@ pub record InTurns (journal : List Event) : Type 0 where
   pub events : journal ≡ whole ++ front
   pub cut : (front ≡ []) ⊎ ((id : ℕ) × (request : Request) × IsTurnFront whole id request front)
 
--- where the source's bytes are told: the requests that were asked are the first of theirs
+-- where the source's bytes are told: the requests that were asked are the first of theirs; where they aren't, each
+-- is a line's
 abbrev pub AsksFirst : Option (List ℕ) → List Event → Type 0
-AsksFirst None journal = ⊤
+AsksFirst None journal = AllByRecursion IsOfLine (asked journal)
 AsksFirst (Some all) journal = (more : List Request) × (requests all ≡ asked journal ++ more)
 
 -- and these are all of them
@@ -66,10 +68,12 @@ AsksTaken None left journal = ⊤
 AsksTaken (Some all) None journal = ⊥
 AsksTaken (Some all) (Some left) journal = (takes : TakesLines all left journal) × HasNoFeed takes.begun
 
--- and the next line has more bytes than a line may have
-abbrev pub ComesTooLong : Option (List ℕ) → List Event → Type 0
-ComesTooLong None journal = ⊤
-ComesTooLong (Some all) journal = (rest : List ℕ) × (requests all ≡ asked journal ++ requests rest) × BeginsTooLong (Some rest)
+-- and that line, of which the session took the beginning, has more bytes than a line may have
+abbrev pub ComesTooLong : Option (List ℕ) → Option (List ℕ) → List Event → Type 0
+ComesTooLong None left journal = ⊤
+ComesTooLong (Some all) None journal = ⊥
+ComesTooLong (Some all) (Some left) journal =
+    (takes : TakesLines all left journal) × HasNoFeed takes.begun × BeginsTooLong (Some (takes.begun ++ left))
 
 -- the journal was printed, but for bytes at the end of the last event's lines
 pub record PrintsCut (old new : Option (List ℕ)) (journal : List Event) : Type 0 where
@@ -80,29 +84,50 @@ pub record PrintsCut (old new : Option (List ℕ)) (journal : List Event) : Type
   pub short : count < length (lines_of last.what)
   pub written : Appends old new (printed front ++ take count (lines_of last.what))
 
--- the next event, which may come and goes on with the turn, is above the bound
-pub record IsFullAt (terms : Terms) (limit : ℕ) (journal : List Event) (used more : ℕ) : Type 0 where
-  pub event : Event
-  pub may : May terms journal event.by event.what
-  pub in_turn : InTurns (journal ++ event ∷ [])
-  pub counted : used ≡ journal_bytes journal
-  pub wanted : more ≡ capped (event_bytes event.what)
-  pub over : limit < used + more
+-- what a session was told at its start, and what its source had
+pub record Told : Type 0 where
+  pub terms : Terms
+  pub limit : ℕ
+  pub most : ℕ
+  pub bytes : Option (List ℕ)
 
--- the next event, which may come and goes on with the turn, notes a path that never was noted, and as many paths were
--- noted as may be
-pub record IsCrowdedAt (terms : Terms) (most : ℕ) (journal : List Event) : Type 0 where
-  pub event : Event
-  pub may : May terms journal event.by event.what
-  pub in_turn : InTurns (journal ++ event ∷ [])
+-- as the settings say it, and with these bytes in the source
+abbrev pub told_of : Settings → Option (List ℕ) → Told
+told_of settings bytes =
+    record { terms = record { noise = settings.noise }; limit = settings.journal; most = settings.documents; bytes = bytes }
+
+-- under the standard settings: the most that settings allow, and the standard noise words
+abbrev pub told_nothing : Option (List ℕ) → Told
+told_nothing bytes =
+    record { terms = record { noise = standard_noise }; limit = 268435456; most = 262144; bytes = bytes }
+
+-- the event notes a path that never was noted, and as many paths were noted as may be
+pub record IsOneTooMany (most : ℕ) (journal : List Event) (event : Event) : Type 0 where
   pub notice : Notice
   pub notes : notice_in event.what ≡ Some notice
   pub new_path : is_numbered (numbered journal) notice.path ≡ false
   pub many : most ≤ length (numbered journal)
 
--- it holds under a list of noise words that has just the standard ones
-abbrev pub Standard : (Terms → Type 0) → Type 0
-Standard Holds = (noise : List (List ℕ)) × SameWords noise standard_noise × Holds (record { noise = noise })
+-- the event may come next: it goes on with the turn, and what it asks is asked by the lines
+pub record ComesNext (told : Told) (journal : List Event) (event : Event) : Type 0 where
+  pub may : May told.terms journal event.by event.what
+  pub in_turn : InTurns (journal ++ event ∷ [])
+  pub lines : AsksFirst told.bytes (journal ++ event ∷ [])
+
+-- the next event is above the bound, and notes no path too many
+pub record IsFullAt (told : Told) (journal : List Event) (used more : ℕ) : Type 0 where
+  pub event : Event
+  pub next : ComesNext told journal event
+  pub counted : used ≡ journal_bytes journal
+  pub wanted : more ≡ capped (event_bytes event.what)
+  pub over : told.limit < used + more
+  pub room : IsOneTooMany told.most journal event → ⊥
+
+-- the next event notes a path too many
+pub record IsCrowdedAt (told : Told) (journal : List Event) : Type 0 where
+  pub event : Event
+  pub next : ComesNext told journal event
+  pub many : IsOneTooMany told.most journal event
 
 -- a session that ends with this status ends between two turns
 abbrev pub EndsBetween : Status → Type 0
@@ -115,6 +140,6 @@ EndsBetween (JournalFull used more) = ⊥
 EndsBetween TooManyDocuments = ⊥
 EndsBetween OutOfMemory = ⊥
 
--- a session ends well, unless memory was wanted
-abbrev pub EndsWellOrStarves : Status → Type 0
-EndsWellOrStarves status = (status ≡ Done) ⊎ (status ≡ OutOfMemory)
+-- a session ends well, unless memory was wanted or a line had no end
+abbrev pub EndsWell : Status → Type 0
+EndsWell status = (status ≡ Done) ⊎ (status ≡ OutOfMemory) ⊎ (status ≡ EndlessLine)

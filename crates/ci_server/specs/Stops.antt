@@ -37,12 +37,14 @@ pub record IsNext (Fits : List Event → Type 0) (core : Core) (event : Event) :
   pub fits : Fits (core.sheet.events ++ event ∷ [])
   pub may : May core.terms core.sheet.events event.by event.what
 
--- the next event was refused, for this cause; want of memory may come of what the event needs first
+-- the next event was refused, for this cause; a path too many is told before a full journal, and want of memory may
+-- come of what the event needs first
 abbrev pub Halts : (List Event → Type 0) → Core → Core → CoreFault → Type 0
 Halts Fits old new TooManyDocuments =
     (event : Event) × IsNext Fits old event × IsCrowded old event × (new.sheet.events ≡ old.sheet.events)
 Halts Fits old new (JournalFull used more) =
     (event : Event) × IsNext Fits old event × IsFull old.sheet new.sheet (event_bytes event.what) used more
+    × (IsCrowded old event → ⊥)
 Halts Fits old new OutOfMemory = new.sheet.events ≡ old.sheet.events
 Halts Fits old new WriteFault =
     (event : Event) × IsNext Fits old event × (0 < length (lines_of event.what)) × (new.sheet.events ≡ old.sheet.events ++ event ∷ [])

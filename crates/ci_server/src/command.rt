@@ -1,12 +1,13 @@
 ghost use Rattle.std.specs.Prelude.{◌≡◌, ◌≢◌, ◌↔◌, ◌≤◌, ◌⊎◌, ℕ, [], false, true, length, bytes_eq};
 ghost use Rattle.std.specs.Io.KnownBytes.{Appends, IsAtEnd};
 ghost use Rattle.ci_io.specs.Causes.{Rose};
-ghost use Rattle.ci_core.specs.declared.settings.TheConstants.{JOURNAL_MOST, DOCUMENTS_MOST};
+ghost use Rattle.ci_journal.specs.Bytes.{journal_bytes};
 ghost use Rattle.ci_journal.specs.Completions.{numbered};
 ghost use Rattle.ci_journal.specs.Printed.{printed};
 ghost use Rattle.ci_journal.specs.Step.{Run};
 ghost use Rattle.ci_law.specs.Law.{AllAnswer};
-ghost use Rattle.ci_server.specs.Session.{Standard, InTurns, IsWhole, EndsBetween, AsksFirst, AsksAll, AsksBefore, AsksTaken, EndsByQuit, ComesTooLong, PrintsCut, IsFullAt, IsCrowdedAt, EndsWellOrStarves};
+ghost use Rattle.ci_words.specs.Noise.{standard_noise};
+ghost use Rattle.ci_server.specs.Session.{told_nothing, InTurns, IsWhole, EndsBetween, AsksFirst, AsksAll, AsksBefore, AsksTaken, EndsByQuit, ComesTooLong, PrintsCut, IsFullAt, IsCrowdedAt, EndsWell};
 ghost use Rattle.ci_server.specs.Words.{are_words};
 
 use crate::{Session, Status, run_steps};
@@ -28,10 +29,9 @@ pub fn run<S: Source + Drop, K: Sink + Drop>(
     ensures unread { result.status ≡ Status.Usage → result.source ≡ source }
     ensures unwritten { result.status ≡ Status.Usage → result.sink ≡ sink }
 
-    // Otherwise the session is that of `run_steps` with the standard settings: their noise list has
-    // the standard words, in whatever order.
-    ensures run { Standard (λ terms. Run terms result.journal.list) }
-    ensures answers { Standard (λ terms. AllAnswer terms result.journal.list) }
+    // Otherwise the session is that of `run_steps` with the standard settings.
+    ensures run { Run (record { noise = standard_noise }) result.journal.list }
+    ensures answers { AllAnswer (record { noise = standard_noise }) result.journal.list }
     ensures turns { InTurns result.journal.list }
     ensures whole { EndsBetween result.status → IsWhole result.journal.list }
 
@@ -58,22 +58,22 @@ pub fn run<S: Source + Drop, K: Sink + Drop>(
     ensures write_fault { result.status ≡ Status.WriteFault →
         Rose (K.faults sink) (K.faults result.sink) }
     ensures journal_full { (used more : ℕ) → result.status ≡ Status.JournalFull used more →
-        Standard (λ terms. IsFullAt terms JOURNAL_MOST result.journal.list used more) }
+        IsFullAt (told_nothing (S.left source)) result.journal.list used more }
     ensures crowded { result.status ≡ Status.TooManyDocuments →
-        Standard (λ terms. IsCrowdedAt terms DOCUMENTS_MOST result.journal.list) }
-    ensures bounded { length (numbered result.journal.list) ≤ DOCUMENTS_MOST }
+        IsCrowdedAt (told_nothing (S.left source)) result.journal.list }
     ensures endless { result.status ≡ Status.EndlessLine →
-        ComesTooLong (S.left source) result.journal.list }
+        ComesTooLong (S.left source) (S.left result.source) result.journal.list }
+    ensures within { journal_bytes result.journal.list ≤ 268435456 }
+    ensures bounded { length (numbered result.journal.list) ≤ 262144 }
 
-    // Where none of these causes holds, the session ends well.
+    // Where no count rose and no bound was met, the session ends well.
     ensures complete { are_words words.now ≡ true →
         (Rose (S.faults source) (S.faults result.source) → ⊥) →
         (Rose (K.faults sink) (K.faults result.sink) → ⊥) →
-        ((used more : ℕ) → Standard (λ terms.
-        IsFullAt terms JOURNAL_MOST result.journal.list used more) → ⊥) →
-        (Standard (λ terms. IsCrowdedAt terms DOCUMENTS_MOST result.journal.list) → ⊥) →
-        (ComesTooLong (S.left source) result.journal.list → ⊥) →
-        EndsWellOrStarves result.status }
+        ((used more : ℕ) →
+        IsFullAt (told_nothing (S.left source)) result.journal.list used more → ⊥) →
+        (IsCrowdedAt (told_nothing (S.left source)) result.journal.list → ⊥) →
+        EndsWell result.status }
 {
     if !are_words(words) {
         return Session::idle(alloc, Status::Usage, source, sink);

@@ -1,12 +1,14 @@
 ghost use Rattle.std.specs.Prelude.{◌≡◌, ◌≢◌, ◌≤◌, ◌⊎◌, ℕ, [], length};
 ghost use Rattle.std.specs.Io.KnownBytes.{Appends, IsAtEnd};
 ghost use Rattle.ci_io.specs.Causes.{Rose};
+ghost use Rattle.ci_journal.specs.Bytes.{journal_bytes};
 ghost use Rattle.ci_journal.specs.Completions.{numbered};
 ghost use Rattle.ci_journal.specs.Printed.{printed};
 ghost use Rattle.ci_journal.specs.Step.{Run};
 ghost use Rattle.ci_law.specs.Law.{AllAnswer};
 ghost use Rattle.ci_server.specs.Course.{IsTold};
-ghost use Rattle.ci_server.specs.Session.{InTurns, IsWhole, EndsBetween, AsksFirst, AsksAll, AsksBefore, AsksTaken, EndsByQuit, ComesTooLong, PrintsCut, IsFullAt, IsCrowdedAt, EndsWellOrStarves};
+ghost use Rattle.ci_server.specs.Session.{told_of};
+ghost use Rattle.ci_server.specs.Session.{InTurns, IsWhole, EndsBetween, AsksFirst, AsksAll, AsksBefore, AsksTaken, EndsByQuit, ComesTooLong, PrintsCut, IsFullAt, IsCrowdedAt, EndsWell};
 
 use crate::{Session, Status, read_lines};
 use ci_core::{Catalog, Settings};
@@ -62,24 +64,23 @@ pub fn run_steps<S: Source + Drop, K: Sink + Drop>(
     ensures write_fault { result.status ≡ Status.WriteFault →
         Rose (K.faults sink) (K.faults result.sink) }
     ensures journal_full { (used more : ℕ) → result.status ≡ Status.JournalFull used more →
-        IsFullAt (record { noise = settings.now.noise })
-        settings.now.journal result.journal.list used more }
+        IsFullAt (told_of settings.now (S.left source)) result.journal.list used more }
     ensures crowded { result.status ≡ Status.TooManyDocuments →
-        IsCrowdedAt (record { noise = settings.now.noise })
-        settings.now.documents result.journal.list }
-    ensures bounded { length (numbered result.journal.list) ≤ settings.now.documents }
+        IsCrowdedAt (told_of settings.now (S.left source)) result.journal.list }
     ensures endless { result.status ≡ Status.EndlessLine →
-        ComesTooLong (S.left source) result.journal.list }
+        ComesTooLong (S.left source) (S.left result.source) result.journal.list }
 
-    // Where none of these causes holds, the session ends well.
+    // The settings bound the journal at every end.
+    ensures within { journal_bytes result.journal.list ≤ settings.now.journal }
+    ensures bounded { length (numbered result.journal.list) ≤ settings.now.documents }
+
+    // Where no count rose and no bound was met, the session ends well.
     ensures complete { (Rose (S.faults source) (S.faults result.source) → ⊥) →
         (Rose (K.faults sink) (K.faults result.sink) → ⊥) →
-        ((used more : ℕ) → IsFullAt (record { noise = settings.now.noise })
-        settings.now.journal result.journal.list used more → ⊥) →
-        (IsCrowdedAt (record { noise = settings.now.noise })
-        settings.now.documents result.journal.list → ⊥) →
-        (ComesTooLong (S.left source) result.journal.list → ⊥) →
-        EndsWellOrStarves result.status }
+        ((used more : ℕ) → IsFullAt (told_of settings.now (S.left source))
+        result.journal.list used more → ⊥) →
+        (IsCrowdedAt (told_of settings.now (S.left source)) result.journal.list → ⊥) →
+        EndsWell result.status }
 {
     run_course(alloc, settings, source, sink)
 }
@@ -131,6 +132,7 @@ fn end<S: Source + Drop, K: Sink + Drop>(
     ensures status { result.status ≡ status }
     ensures journal { result.journal.list ≡ catalog.sheet.events }
     ensures run { Run catalog.terms result.journal.list }
+    ensures within { journal_bytes result.journal.list ≤ catalog.sheet.limit }
     ensures source { result.source ≡ source }
     ensures written { K.written result.sink ≡ catalog.sheet.written }
     ensures faults { K.faults result.sink ≡ catalog.sheet.faults }

@@ -69,10 +69,12 @@ impl NoiseList {
     }
 
     /// The list that is used where no other is given.
+    #[tactic(auto, using(crate::proofs::StandardLemmas::standard_is_sorted))]
     pub fn standard(alloc: Global) -> Result<NoiseList, OutOfMemory>
-        ensures { IfOk result (λ noise. SameWords noise standard_noise) }
+        ensures { IfOk result (λ noise. noise ≡ standard_noise) }
     {
-        NoiseList::of_words(list_of(alloc, &STANDARD)?)
+        let words = list_of(alloc, &STANDARD)?;
+        Ok(NoiseList { words })
     }
 
     /// Whether the word is one of the list.

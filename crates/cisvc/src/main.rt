@@ -1,24 +1,30 @@
 //! The catalogue server over standard input and standard output.
 #![tactic(auto)]
 
-use ci_base::{OutOfMemory, Text};
+use ci_base::Text;
 use ci_io::{StdSink, StdSource};
 use ci_server::{Status, run};
-use std::alloc::Global;
+use std::env;
 use std::env::Env;
+use std::io::{self, ErrorKind};
 use std::process::ExitCode;
-use std::{env, io};
 
-fn main(rt: HostRuntime) -> anyhow::Result<ExitCode> {
-    let words = words(&rt)?;
-    let source = StdSource::new(rt.stdin());
-    let sink = StdSink::new(rt.stdout());
-    let session = run(rt.alloc(), &words, source, sink);
-    let status = session.status;
+fn main(rt: HostRuntime) -> ExitCode {
+    let status = match words(&rt) {
+        Ok(words) => {
+            let source = StdSource::new(rt.stdin());
+            let sink = StdSink::new(rt.stdout());
+            run(rt.alloc(), &words, source, sink).status
+        }
+        Err(error) if error.kind() == ErrorKind::OutOfMemory => Status::OutOfMemory,
+        // A word that isn't UTF-8 is no word of the command line.
+        Err(_) => Status::Usage,
+    };
     if status != Status::Done {
-        eprintln!(rt; "cisvc: {}", status.name())?;
+        // The exit status tells it, also where standard error is closed.
+        let _told = eprintln!(rt; "cisvc: {}", status.name());
     }
-    Ok(ExitCode::from(status.exit_code()))
+    ExitCode::from(status.exit_code())
 }
 
 // The words of the command line, the program's name first.

@@ -22,9 +22,9 @@ pub returns-in-Ok-serve_line-clause-ok : goal.returns-in-Ok-serve_line-clause-ok
 returns-in-Ok-serve_line-clause-ok g c =
     let r = c.in-Ok.ensures in
     let s = c.in-Ok-serve_line.ensures in
-    GoesOn-served c.args.reader.now c.read_line.new.self c.in-Ok.line (sym c.if-is_end.ensures) r.ok _ _ r.fed r.last r.stays_ended r.kept s.ok c.in-Ok-serve_line.quits s.quits
+    GoesOn-served c.args.reader.now c.read_line.new.self c.in-Ok.line (sym c.if-is_end.ensures) r.ok r.short _ _ r.fed r.last r.stays_ended r.kept s.ok c.in-Ok-serve_line.quits s.quits
 
 pub returns-clause-err : goal.returns-clause-err
 returns-clause-err g c =
     StopsAt-step c.args.reader.now c.read_line.new.self _ _ c.in-Err-serve_line.fault c.of_step.result c.of_step.ensures
-    (StopsIn-line c.args.reader.now c.read_line.new.self c.in-Ok.line (sym c.if-is_end.ensures) c.in-Ok.ensures.ok _ _ c.in-Err-serve_line.fault c.in-Err-serve_line.ensures.err)
+    (StopsIn-line c.args.reader.now c.read_line.new.self c.in-Ok.line (sym c.if-is_end.ensures) c.in-Ok.ensures.ok c.in-Ok.ensures.short _ _ c.in-Err-serve_line.fault c.in-Err-serve_line.ensures.err)

@@ -1,4 +1,4 @@
-use Rattle.std.proofs.Common.{◌+◌, [], ◌∷◌, length, refl}
+use Rattle.std.proofs.Common.{◌+◌, [], ◌∷◌, length, refl, inl, inr}
 use Rattle.std.proofs.lemmas.Result.{err_from_is_err_and}
 use Rattle.ci_change.specs.declared.notice.What.TheVariants.{Changed}
 use Rattle.ci_journal.specs.declared.event.Happened.TheVariants.{Said}
@@ -6,7 +6,7 @@ use Rattle.ci_journal.specs.declared.reply.Reply.TheVariants as reply
 use Rattle.ci_journal.specs.declared.request.Request.TheVariants as request
 use Rattle.ci_journal.specs.Folds.{notices}
 use Rattle.ci_core.specs.Changes.{event, noted}
-use Rattle.ci_server.proofs.DocumentLemmas.{noted-at, replied-serves}
+use Rattle.ci_server.proofs.DocumentLemmas.{noted-at, uncrowded-note, replied-serves}
 use Rattle.ci_server.proofs.StepsLemmas.{IsAt-none, MaySay-at, steps-stop}
 use Rattle.ci_server.proofs.serve_document.serve_changed.Goals as goal
 
@@ -16,7 +16,7 @@ returns-in_err-_seq-clause-err g c =
     let number = length (notices c.args.catalog.now.sheet.events) + 1 in
     let refused = c.in_err-_seq.ensures in
     rw (p.1, p.2) (steps-stop c.args.catalog.now c.args.id (request.Changed c.args.path.now) _ _ [] (noted 0 c.args.path.now number Changed) (event 0 (Said c.args.id reply.Ok) ∷ []) _
-    (IsAt-none _ c.requires.sound) (record { 0 = number }, refl) refused.refused refused.fixed)
+    (IsAt-none _ c.requires.sound) (record { 0 = number }, refl) refused.refused refused.fixed (inr (uncrowded-note _ c.args.path.now _ _ _ _ c.requires.sound.unrefused refused.crowded)))
 
 pub say-requires : goal.say-requires
 say-requires g c =
@@ -30,7 +30,7 @@ returns-in_err-say-clause-err g c =
     let n = c.in_ok-_seq.ensures in
     let at = noted-at _ _ c.args.path.now c.in_ok-_seq._seq Changed c.requires.sound n.seq n.ok n.unrefused n.fixed n.crowded in
     rw (p.1, p.2) (steps-stop c.args.catalog.now c.args.id (request.Changed c.args.path.now) _ _ (noted 0 c.args.path.now c.in_ok-_seq._seq.0 Changed ∷ []) (event 0 (Said c.args.id reply.Ok)) [] _
-    at (c.in_ok-_seq._seq, refl) c.in_err-say.ensures.refused c.in_err-say.ensures.fixed)
+    at (c.in_ok-_seq._seq, refl) c.in_err-say.ensures.refused c.in_err-say.ensures.fixed (inl refl))
 
 pub returns-clause-ok : goal.returns-clause-ok
 returns-clause-ok g c =

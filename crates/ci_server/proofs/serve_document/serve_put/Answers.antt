@@ -1,4 +1,4 @@
-use Rattle.std.proofs.Common.{arith, ◌+◌, [], ◌∷◌, length, inr, refl}
+use Rattle.std.proofs.Common.{arith, ◌+◌, [], ◌∷◌, length, inr, refl, inl}
 use Rattle.std.proofs.lemmas.Result.{err_from_is_err_and}
 use Rattle.ci_change.specs.declared.notice.What.TheVariants.{Changed}
 use Rattle.ci_chunk.specs.Plain.{plain}
@@ -7,7 +7,7 @@ use Rattle.ci_journal.specs.declared.reply.Reply.TheVariants as reply
 use Rattle.ci_journal.specs.declared.request.Request.TheVariants as request
 use Rattle.ci_journal.specs.Folds.{notices}
 use Rattle.ci_core.specs.Changes.{event, noted}
-use Rattle.ci_server.proofs.DocumentLemmas.{MayPut-at, noted-at, plain-small, put-at, replied-serves}
+use Rattle.ci_server.proofs.DocumentLemmas.{MayPut-at, noted-at, uncrowded-note, plain-small, put-at, replied-serves}
 use Rattle.ci_server.proofs.StepsLemmas.{IsAt-none, MaySay-at, steps-starve, steps-stop}
 use Rattle.ci_server.proofs.serve_document.serve_put.Goals as goal
 
@@ -18,7 +18,7 @@ returns-in_err-seq-clause-err g c =
     let refused = c.in_err-seq.ensures in
     rw (p.1, p.2) (steps-stop c.args.catalog.now c.args.id (request.Put c.args.path.now c.args.text.now) _ _ [] (noted 0 c.args.path.now number Changed)
     (event 0 (Put c.args.path.now (record { 0 = number }) (plain c.args.path.now c.args.text.now)) ∷ event 0 (Said c.args.id reply.Ok) ∷ []) _
-    (IsAt-none _ c.requires.asked.sound) (record { 0 = number }, refl) refused.refused refused.fixed)
+    (IsAt-none _ c.requires.asked.sound) (record { 0 = number }, refl) refused.refused refused.fixed (inr (uncrowded-note _ c.args.path.now _ _ _ _ c.requires.asked.sound.unrefused refused.crowded)))
 
 pub returns-in_err-transcript-clause-err : goal.returns-in_err-transcript-clause-err
 returns-in_err-transcript-clause-err g c =
@@ -51,7 +51,7 @@ returns-in_err-put-clause-err g c =
     let refused = c.in_err-put.ensures in
     rw (p.1, p.2) (steps-stop c.args.catalog.now c.args.id (request.Put c.args.path.now c.args.text.now) _ _ (noted 0 c.args.path.now seq.0 Changed ∷ [])
     (event 0 (Put c.args.path.now seq (plain c.args.path.now c.args.text.now))) (event 0 (Said c.args.id reply.Ok) ∷ []) _ at (seq, refl)
-    (rw (c.in_ok-transcript.ensures, c.as_str.ensures) at refused.refused) refused.fixed)
+    (rw (c.in_ok-transcript.ensures, c.as_str.ensures) at refused.refused) refused.fixed (inl refl))
 
 pub say-requires : goal.say-requires
 say-requires g c =
@@ -72,7 +72,7 @@ returns-in_err-say-clause-err g c =
     let put = put-at _ _ c.args.path.now c.args.text.now seq n.seq at _ (rw (c.in_ok-transcript.ensures, c.as_str.ensures) at u.ok) u.unrefused u.fixed in
     rw (p.1, p.2) (steps-stop c.args.catalog.now c.args.id (request.Put c.args.path.now c.args.text.now) _ _
     (noted 0 c.args.path.now seq.0 Changed ∷ event 0 (Put c.args.path.now seq (plain c.args.path.now c.args.text.now)) ∷ []) (event 0 (Said c.args.id reply.Ok)) [] _ put (seq, refl)
-    c.in_err-say.ensures.refused c.in_err-say.ensures.fixed)
+    c.in_err-say.ensures.refused c.in_err-say.ensures.fixed (inl refl))
 
 pub returns-clause-ok : goal.returns-clause-ok
 returns-clause-ok g c =

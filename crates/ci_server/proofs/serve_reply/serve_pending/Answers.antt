@@ -19,7 +19,7 @@ returns-in_err-say-clause-err g c =
     let notices = c.in_ok-notices.notices in
     let refused = c.in_err-say.ensures in
     rw (p.1, p.2) (steps-stop c.args.catalog.now c.args.id request.Pending _ _ [] (event 0 (Said c.args.id (reply.Pending notices))) [] _
-    (IsAt-none _ c.requires.sound) (notices, c.in_ok-notices.ensures, refl) refused.refused refused.fixed)
+    (IsAt-none _ c.requires.sound) (notices, c.in_ok-notices.ensures, refl) refused.refused refused.fixed (inl refl))
 
 pub returns-clause-ok : goal.returns-clause-ok
 returns-clause-ok g c =

@@ -1,4 +1,4 @@
-use Rattle.std.proofs.Common.{[], refl}
+use Rattle.std.proofs.Common.{[], refl, inl}
 use Rattle.std.proofs.lemmas.Result.{err_from_is_err_and}
 use Rattle.ci_journal.specs.declared.event.Happened.TheVariants.{Said}
 use Rattle.ci_journal.specs.declared.reply.Reply.TheVariants as reply
@@ -13,7 +13,7 @@ returns-in_err-say-clause-err g c =
     let p = err_from_is_err_and c.from_residual.result c.from_residual.ensures.1 in
     let refused = c.in_err-say.ensures in
     rw (p.1, p.2) (steps-stop c.args.catalog.now c.args.id request.Quit _ _ [] (event 0 (Said c.args.id reply.Bye)) [] _
-    (IsAt-none _ c.requires.sound) (c.requires.replied, refl) refused.refused refused.fixed)
+    (IsAt-none _ c.requires.sound) (c.requires.replied, refl) refused.refused refused.fixed (inl refl))
 
 pub returns-clause-ok : goal.returns-clause-ok
 returns-clause-ok g c =

@@ -1,4 +1,4 @@
-use Rattle.std.proofs.Common.{[], ◌∷◌, inr, refl}
+use Rattle.std.proofs.Common.{[], ◌∷◌, inr, refl, inl}
 use Rattle.std.proofs.lemmas.Result.{err_from_is_err_and}
 use Rattle.ci_journal.specs.declared.event.Happened.TheVariants.{Opened, Answered}
 use Rattle.ci_journal.specs.declared.request.Request.TheVariants as request
@@ -13,7 +13,7 @@ returns-in_err-question-clause-err g c =
     let p = err_from_is_err_and c.from_residual.result c.from_residual.ensures.1 in
     let refused = c.in_err-question.ensures in
     rw (p.1, p.2) (λ text. steps-stop c.args.catalog.now c.args.id (request.Query text) _ _ [] (event 0 (Opened c.args.id)) (event 0 (Answered c.args.id 0 []) ∷ []) _
-    (IsAt-none _ c.requires.sound) (0, [], refl) (Refuses-opening _ c.args.id c.requires.sound c.requires.waits _ _ refused.refused) refused.fixed)
+    (IsAt-none _ c.requires.sound) (0, [], refl) (Refuses-opening _ c.args.id c.requires.sound c.requires.waits _ _ refused.refused) refused.fixed (inl refl))
 
 pub returns-in_err-hits-clause-err : goal.returns-in_err-hits-clause-err
 returns-in_err-hits-clause-err g c =
@@ -40,7 +40,7 @@ returns-in_err-answer-clause-err g c =
     let at = opened-at _ c.args.id c.requires.sound c.requires.waits _ q opens o.unrefused o.fixed in
     let refused = c.in_err-answer.ensures in
     rw (p.1, p.2) (λ text. steps-stop c.args.catalog.now c.args.id (request.Query text) _ _ (event 0 (Opened c.args.id) ∷ []) (event 0 (Answered c.args.id q.at c.in_ok-hits.hits)) [] _
-    at (q.at, c.in_ok-hits.hits, refl) (Refuses-answer _ c.args.id c.requires.sound c.requires.waits _ q opens _ c.in_ok-hits.hits _ refused.refused) refused.fixed)
+    at (q.at, c.in_ok-hits.hits, refl) (Refuses-answer _ c.args.id c.requires.sound c.requires.waits _ q opens _ c.in_ok-hits.hits _ refused.refused) refused.fixed (inl refl))
 
 pub returns-clause-ok : goal.returns-clause-ok
 returns-clause-ok g c =

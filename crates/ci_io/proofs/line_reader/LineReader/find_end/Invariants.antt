@@ -1,5 +1,5 @@
 use Rattle.std.proofs.Common.{◌≡◌, ◌+◌, ◌-◌, ◌≤◌, true, length, take}
-use Rattle.ci_io.specs.declared.line.TheConstants.{LINE_BYTES}
+use Rattle.ci_io.specs.Limits.{line_bytes}
 use Rattle.ci_io.specs.Lines.{HasNoFeed}
 use Rattle.ci_io.specs.Reading.{Gathers, LeavesSource}
 use Rattle.ci_io.proofs.line_reader.LineReader.find_end.Given as goal
@@ -16,4 +16,4 @@ invariant-loop-feed g l = record {
 }
 
 abbrev pub decreases-loop-feed : goal.decreases-loop-feed
-decreases-loop-feed g l = LINE_BYTES + 1 - length l.self.held
+decreases-loop-feed g l = line_bytes + 1 - length l.self.held

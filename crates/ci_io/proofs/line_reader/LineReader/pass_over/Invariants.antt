@@ -1,5 +1,5 @@
 use Rattle.std.proofs.Common.{◌≡◌, ◌≤◌, ◌-◌}
-use Rattle.ci_io.specs.declared.line.TheConstants.{ENDLESS_BYTES}
+use Rattle.ci_io.specs.Limits.{endless_bytes}
 use Rattle.ci_io.proofs.LongLines.{IsPassing}
 use Rattle.ci_io.proofs.line_reader.LineReader.pass_over.Given as goal
 
@@ -7,9 +7,9 @@ use Rattle.ci_io.proofs.line_reader.LineReader.pass_over.Given as goal
 abbrev pub invariant-loop-passed : goal.invariant-loop-passed
 invariant-loop-passed g l = record {
   passing : IsPassing l.fn.self l.self l.passed;
-  bound : l.passed ≤ ENDLESS_BYTES;
+  bound : l.passed ≤ endless_bytes;
   count : l.self.faults ≡ l.fn.self.faults;
 }
 
 abbrev pub decreases-loop-passed : goal.decreases-loop-passed
-decreases-loop-passed g l = ENDLESS_BYTES - l.passed
+decreases-loop-passed g l = endless_bytes - l.passed
