@@ -1,7 +1,7 @@
 //! Daemons in processes of their own.
 
-use crate::talks::talked;
-use ci_link::{ChildSpawner, Link, Spawner, Talk};
+use crate::talks::{shown, talked};
+use ci_link::{ChildSpawner, Link, Spawner};
 use std::alloc::Global;
 use std::test::Fail;
 
@@ -25,11 +25,8 @@ fn a_child_that_says_what_it_hears_is_no_daemon(rt: HostRuntime) -> Result<(), F
     let mut link = spawner.start(alloc, "/bin/cat").ok().ok_or("a child")?;
     assert!(rt; matches!(link.send(b"hello"), Ok(5)));
     assert_eq!(rt; heard(alloc, &mut link, 5)?.as_slice(), b"hello".as_slice());
-    let (talk, link) = talked(alloc, link, &["/d/a.txt"])?;
-    match talk {
-        Talk::Finished(_) => assert!(rt; false, "finished"),
-        Talk::Died { charged } => assert_eq!(rt; charged, 0),
-    }
+    let (talk, link) = talked(alloc, link, "/d/a.txt")?;
+    assert_eq!(rt; shown(alloc, &talk)?.as_str(), "died at 0");
     spawner.stop(link);
     Ok(())
 }

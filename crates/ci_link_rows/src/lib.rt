@@ -6,4 +6,6 @@ mod children;
 #[cfg(test)]
 mod spawners;
 #[cfg(test)]
+mod table;
+#[cfg(test)]
 mod talks;

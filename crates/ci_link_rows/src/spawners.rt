@@ -1,13 +1,15 @@
-//! Spawners in memory.
+//! Spawners in memory, and what is done with them: a word for each call.
 
 ghost use Rattle.std.specs.Prelude.{IfOk};
 ghost use Rattle.ci_link.specs.Memory.{IsSureUnused, IsUnused};
 
 use ci_base::Text8;
 use ci_link::{
-    Daemon, Link, MemoryLink, MemorySpawner, Records, Spawner, SureMemoryLink, SureMemorySpawner,
+    Link, LinkRecord, MemoryLink, MemorySpawner, Records, Spawner, SureMemoryLink,
+    SureMemorySpawner,
 };
 use std::alloc::Global;
+use std::collections::VecDeque;
 use std::test::Fail;
 
 fn link(alloc: Global, answers: &[u8]) -> Result<MemoryLink, Fail>
@@ -35,88 +37,171 @@ fn sure_spawner(alloc: Global) -> Result<SureMemorySpawner, Fail> {
     Ok(SureMemorySpawner::new(alloc, links))
 }
 
-fn start<S: Spawner>(alloc: Global, spawner: &mut S) -> Result<S::Link, Fail> {
-    Ok(spawner.start(alloc, "daemon").ok().ok_or("a link")?)
+// The next link is started, and stands behind the others.
+fn start<S: Spawner>(
+    alloc: Global,
+    spawner: &mut S,
+    links: &mut VecDeque<S::Link>,
+) -> Result<bool, Fail> {
+    match spawner.start(alloc, "daemon") {
+        Ok(link) => {
+            links.push_back(link)?;
+            Ok(true)
+        }
+        Err(_) => Ok(false),
+    }
 }
 
-fn refuses<S: Spawner>(alloc: Global, spawner: &mut S) -> bool {
-    spawner.start(alloc, "daemon").is_err()
+// A link is given back.
+fn stop<S: Spawner>(spawner: &mut S, link: Option<S::Link>) -> bool {
+    match link {
+        Some(link) => {
+            spawner.stop(link);
+            true
+        }
+        None => false,
+    }
+}
+
+// At most two bytes are received.
+fn hear<L: Link>(link: Option<&mut L>) -> bool {
+    match link {
+        Some(link) => link.receive(&mut [0u8; 2]).is_ok(),
+        None => false,
+    }
+}
+
+fn say<L: Link>(link: Option<&mut L>, bytes: &[u8]) -> bool {
+    match link {
+        Some(link) => link.send(bytes).is_ok(),
+        None => false,
+    }
+}
+
+// What a word does, and whether it is done: calls of the first link, or of the last, and the end of
+// one of them.
+fn act<S: Spawner>(
+    alloc: Global,
+    spawner: &mut S,
+    links: &mut VecDeque<S::Link>,
+    word: &str,
+) -> Result<bool, Fail> {
+    match word {
+        "start" => start(alloc, spawner, links),
+        "hear" => Ok(hear(links.front_mut())),
+        "say" => Ok(say(links.front_mut(), b"hello")),
+        "shout" => Ok(say(links.front_mut(), b"more than sixteen bytes")),
+        "fill" => Ok(say(links.back_mut(), &[0u8; 2048])),
+        "more" => Ok(say(links.back_mut(), b"x")),
+        "stop" => Ok(stop(spawner, links.pop_front())),
+        _ => Ok(stop(spawner, links.pop_back())),
+    }
+}
+
+// A sign for each word that is done or refused.
+fn acted<S: Spawner>(alloc: Global, spawner: &mut S, words: &str) -> Result<String, Fail> {
+    let mut links = VecDeque::new(alloc);
+    let mut signs = String::new(alloc);
+    for word in words.split(' ') {
+        let done = act(alloc, spawner, &mut links, word)?;
+        signs.push(if done { '+' } else { '-' })?;
+    }
+    Ok(signs)
 }
 
 // What is told of each link: the bytes sent, those given, and how it ended.
 fn told(alloc: Global, records: &Records) -> Result<String, Fail> {
-    let mut lines = String::new(alloc);
+    let mut told = String::new(alloc);
     for record in &records.to_vec(alloc)? {
-        let sent = str::from_utf8(record.sent.items()).ok().ok_or("a text")?;
-        let given = str::from_utf8(record.given.items()).ok().ok_or("a text")?;
-        let (rose, more) = (record.rose, record.more);
-        let line = format!(in alloc; "[{sent}] [{given}] rose {rose} more {more}\n")?;
-        lines.push_str(line.as_str())?;
+        tell(&mut told, record)?;
     }
-    Ok(lines)
+    Ok(told)
+}
+
+fn tell(told: &mut String, record: &LinkRecord) -> Result<(), Fail> {
+    let sent = str::from_utf8(record.sent.items()).ok().ok_or("a text")?;
+    let given = str::from_utf8(record.given.items()).ok().ok_or("a text")?;
+    let (rose, more) = (record.rose, record.more);
+    Ok(write!(told, " [{sent}] [{given}] rose {rose} more {more}")?)
+}
+
+fn spawned(alloc: Global, words: &str) -> Result<String, Fail> {
+    let mut spawner = spawner(alloc)?;
+    let signs = acted(alloc, &mut spawner, words)?;
+    let told = told(alloc, spawner.records())?;
+    Ok(format!(in alloc; "{}{}", signs.as_str(), told.as_str())?)
 }
 
 #[test]
 fn links_come_in_order_and_are_recorded(rt: HostRuntime) -> Result<(), Fail> {
-    let alloc = rt.alloc();
-    let mut spawner = spawner(alloc)?;
-    let mut first = start(alloc, &mut spawner)?;
-    assert!(rt; refuses(alloc, &mut spawner));
-    let second = start(alloc, &mut spawner)?;
-    assert!(rt; refuses(alloc, &mut spawner));
-    let mut out = [0u8; 2];
-    assert!(rt; matches!(first.receive(&mut out), Ok(2)));
-    assert!(rt; matches!(first.send(b"hello"), Ok(5)));
-    assert!(rt; first.send(b"more than sixteen bytes").is_err());
-    spawner.stop(second);
-    spawner.stop(first);
-    let told = told(alloc, spawner.records())?;
-    let wanted = "[] [] rose false more true\n[hello] [on] rose true more true\n";
-    assert_eq!(rt; told.as_str(), wanted);
+    let words = "start start start start hear say shout end stop";
+    assert_eq!(rt;
+        spawned(rt.alloc(), words)?.as_str(),
+        "+-+-++-++ [] [] rose false more true [hello] [on] rose true more true"
+    );
     Ok(())
+}
+
+fn surely_spawned(alloc: Global, words: &str) -> Result<String, Fail> {
+    let mut spawner = sure_spawner(alloc)?;
+    let signs = acted(alloc, &mut spawner, words)?;
+    let told = told(alloc, spawner.records())?;
+    Ok(format!(in alloc; "{}{}", signs.as_str(), told.as_str())?)
 }
 
 #[test]
 fn a_sure_spawner_gives_links_that_have_ended(rt: HostRuntime) -> Result<(), Fail> {
-    let alloc = rt.alloc();
-    let mut spawner = sure_spawner(alloc)?;
-    let first = start(alloc, &mut spawner)?;
-    let mut second = start(alloc, &mut spawner)?;
-    assert!(rt; matches!(second.send(&[0u8; 2048]), Ok(2048)));
-    assert!(rt; second.send(b"x").is_err());
-    let third = start(alloc, &mut spawner)?;
-    let daemon = Daemon::new(alloc, third).ok().ok_or("memory for a daemon")?;
-    spawner.stop(daemon.into_link());
-    // A link that it didn't start is told as well.
-    spawner.stop(first.copy(alloc)?);
-    spawner.stop(first);
-    let told = told(alloc, spawner.records())?;
-    let one = "[] [] rose false more true\n";
-    let wanted = format!(in alloc; "[] [] rose false more false\n{one}{one}")?;
-    assert_eq!(rt; told.as_str(), wanted.as_str());
+    // behind the links that it was given as many as are asked for, with room for 2,048 bytes each
+    assert_eq!(rt;
+        surely_spawned(rt.alloc(), "start start fill more start end stop")?.as_str(),
+        "+++-+++ [] [] rose false more false [] [] rose false more true"
+    );
     Ok(())
+}
+
+// What is told of a link and its copy, which the spawner didn't start.
+fn told_of_both(alloc: Global) -> Result<String, Fail> {
+    let mut spawner = sure_spawner(alloc)?;
+    let link = sure_link(alloc, b"one")?;
+    let copy = link.copy(alloc)?;
+    spawner.stop(link);
+    spawner.stop(copy);
+    told(alloc, spawner.records())
+}
+
+#[test]
+fn a_link_that_it_did_not_start_is_told_as_well(rt: HostRuntime) -> Result<(), Fail> {
+    assert_eq!(rt;
+        told_of_both(rt.alloc())?.as_str(),
+        " [] [] rose false more true [] [] rose false more true"
+    );
+    Ok(())
+}
+
+// What is told of a spawner with a link that was given back, and of its copy, which goes on.
+fn copied(alloc: Global) -> Result<String, Fail> {
+    let mut spawner = spawner(alloc)?;
+    let signs = acted(alloc, &mut spawner, "start stop")?;
+    let mut copy = spawner.copy(alloc)?;
+    let more = acted(alloc, &mut copy, "start start hear hear stop")?;
+    let (one, other) = (
+        told(alloc, spawner.records())?,
+        told(alloc, copy.records())?,
+    );
+    Ok(format!(in alloc;
+        "{}{}; {}{}",
+        signs.as_str(),
+        one.as_str(),
+        more.as_str(),
+        other.as_str()
+    )?)
 }
 
 #[test]
 fn a_copied_spawner_goes_on_by_itself(rt: HostRuntime) -> Result<(), Fail> {
-    let alloc = rt.alloc();
-    let mut spawner = spawner(alloc)?;
-    let first = start(alloc, &mut spawner)?;
-    spawner.stop(first);
-    let mut copied = spawner.copy(alloc)?;
-    assert!(rt; refuses(alloc, &mut copied));
-    let mut second = start(alloc, &mut copied)?;
-    let mut out = [0u8; 4];
-    assert!(rt; matches!(second.receive(&mut out), Ok(3)));
-    copied.stop(second);
-    let one = "[] [] rose false more true\n";
-    assert_eq!(rt; told(alloc, spawner.records())?.as_str(), one);
-    let wanted = format!(in alloc; "{one}[] [two] rose false more false\n")?;
-    assert_eq!(rt; told(alloc, copied.records())?.as_str(), wanted.as_str());
-    let mut sure = sure_spawner(alloc)?;
-    let first = start(alloc, &mut sure)?;
-    sure.stop(first);
-    let copied = sure.copy(alloc)?;
-    assert_eq!(rt; told(alloc, copied.records())?.as_str(), one);
+    let one = "[] [] rose false more true";
+    let told = copied(rt.alloc())?;
+    let wanted = format!(in rt.alloc(); "++ {one}; -++++ {one} [] [two] rose false more false")?;
+    assert_eq!(rt; told.as_str(), wanted.as_str());
     Ok(())
 }

@@ -1,21 +1,21 @@
 //! Talks with daemons that say just this.
 
+use crate::table::{Table, unmet};
 use ci_base::{PathText, Seq, Text8};
 use ci_change::{Batch, Docs};
 use ci_chunk::{Call, Piece};
 use ci_link::{Daemon, Link, MemoryLink, Outcome, SureMemoryLink, Talk};
 use ci_wire::encode_call;
 use std::alloc::Global;
-use std::process::Abort;
 use std::test::Fail;
 
 fn path(alloc: Global, text: &str) -> Result<PathText, Fail> {
     Ok(PathText::read(alloc, text.as_bytes()).ok().ok_or("a path")?)
 }
 
-fn batch(alloc: Global, paths: &[&str]) -> Result<Batch, Fail> {
+fn batch(alloc: Global, paths: &str) -> Result<Batch, Fail> {
     let mut docs = Docs::new(alloc);
-    for text in paths {
+    for text in paths.split(' ') {
         docs.add((path(alloc, text)?, Seq(1)))?;
     }
     Ok(Batch { number: 1, docs })
@@ -39,33 +39,36 @@ const NO_MORE_CHUNKS: &[u8] = b"\x05\x10\x80\x04\x17\x00";
 
 const UNKNOWN_FORMAT: &[u8] = b"\x05\x10\x80\x04\x17\x0c";
 
-fn spelled(alloc: Global, frames: &[&[u8]]) -> Result<Text8, Fail> {
+// The frame of a letter.
+fn frame(letter: char) -> &'static [u8] {
+    match letter {
+        'o' => OPENED,
+        '1' => CHUNK_ONE,
+        '2' => CHUNK_TWO,
+        'r' => LAST_RED,
+        'e' => EMPTY,
+        'n' => NO_EMBEDDING,
+        '.' => NO_MORE_CHUNKS,
+        _ => UNKNOWN_FORMAT,
+    }
+}
+
+fn frames(alloc: Global, letters: &str) -> Result<Text8, Fail> {
     let mut bytes = Vec::new(alloc);
-    for frame in frames {
-        bytes.extend_from_slice(frame)?;
+    for letter in letters.chars() {
+        bytes.extend_from_slice(frame(letter))?;
     }
     Ok(Text8::from(bytes))
 }
 
 // The answers of one document: the text `red`, an embedding that can't be had, and an empty text.
-const RED: [&[u8]; 7] = [
-    OPENED,
-    CHUNK_ONE,
-    LAST_RED,
-    NO_EMBEDDING,
-    CHUNK_TWO,
-    EMPTY,
-    NO_MORE_CHUNKS,
-];
+const RED: &str = "o1rn2e.";
 
-fn red(alloc: Global) -> Result<Text8, Fail> {
-    spelled(alloc, &RED)
-}
-
+// A daemon's talk on documents, and its link behind it. No contract of it is seen by a test.
 pub(crate) fn talked<L: Link + Drop>(
     alloc: Global,
     link: L,
-    paths: &[&str],
+    paths: &str,
 ) -> Result<(Talk, L), Fail> {
     let mut daemon = Daemon::new(alloc, link).ok().ok_or("memory for a daemon")?;
     let batch = batch(alloc, paths)?;
@@ -88,72 +91,8 @@ fn is_red(outcome: &Outcome) -> bool {
     }
 }
 
-#[test]
-fn a_document_is_read(rt: HostRuntime) -> Result<(), Fail> {
-    let alloc = rt.alloc();
-    let link = SureMemoryLink::new(alloc, red(alloc)?, 2048)?;
-    let (talk, link) = talked(alloc, link, &["/d/a.txt"])?;
-    match talk {
-        Talk::Finished(outcomes) => match outcomes.items() {
-            [outcome] => assert!(rt; is_red(outcome)),
-            _ => assert!(rt; false),
-        },
-        Talk::Died { charged } => assert!(rt; false, "died at {charged}"),
-    }
-    let path = path(alloc, "/d/a.txt")?;
-    let calls = [
-        Call::Init { flags: 80, path },
-        Call::GetChunk,
-        Call::GetText { max: 65_536 },
-        Call::GetChunk,
-        Call::GetChunk,
-        Call::GetText { max: 65_536 },
-        Call::GetChunk,
-    ];
-    let mut wanted = Vec::new(alloc);
-    for call in &calls {
-        wanted.extend_from_slice(encode_call(alloc, call)?.items())?;
-    }
-    assert_eq!(rt; link.sent(), wanted.as_slice());
-    Ok(())
-}
-
-#[test]
-fn two_documents_are_read(rt: HostRuntime) -> Result<(), Fail> {
-    let alloc = rt.alloc();
-    let mut answers = Vec::from_slice(alloc, red(alloc)?.items())?;
-    answers.extend_from_slice(red(alloc)?.items())?;
-    let link = SureMemoryLink::new(alloc, Text8::from(answers), 2048)?;
-    let (talk, _link) = talked(alloc, link, &["/d/a.txt", "/d/b.txt"])?;
-    match talk {
-        Talk::Finished(outcomes) => {
-            assert_eq!(rt; outcomes.items().len(), 2);
-            assert!(rt; outcomes.items().iter().all(|outcome| is_red(outcome)));
-        }
-        Talk::Died { charged } => assert!(rt; false, "died at {charged}"),
-    }
-    Ok(())
-}
-
-// What came of a batch of so many documents, which are red.
-fn many_red(alloc: Global, paths: &[&str]) -> Result<String, Fail> {
-    let mut answers = Vec::new(alloc);
-    for _ in paths {
-        answers.extend_from_slice(red(alloc)?.items())?;
-    }
-    let link = SureMemoryLink::new(alloc, Text8::from(answers), 4096)?;
-    let (talk, _link) = talked(alloc, link, paths)?;
-    shown(alloc, &talk)
-}
-
-#[test]
-fn sixteen_documents_are_read(rt: HostRuntime) -> Result<(), Fail> {
-    assert_eq!(rt; many_red(rt.alloc(), &["/d/a.txt"; 16])?.as_str(), "red 16");
-    Ok(())
-}
-
-// What a talk came to: how many documents were red, or where it died.
-fn shown(alloc: Global, talk: &Talk) -> Result<String, Fail> {
+/// What a talk came to: how many documents were red, or where it died.
+pub(crate) fn shown(alloc: Global, talk: &Talk) -> Result<String, Fail> {
     match talk {
         Talk::Finished(outcomes) => {
             let red = outcomes.items().iter().filter(|outcome| is_red(outcome));
@@ -163,71 +102,139 @@ fn shown(alloc: Global, talk: &Talk) -> Result<String, Fail> {
     }
 }
 
+// What a talk over this link came to.
+fn came<L: Link + Drop>(alloc: Global, link: L, paths: &str) -> Result<String, Fail> {
+    let (talk, _link) = talked(alloc, link, paths)?;
+    shown(alloc, &talk)
+}
+
+// Rows of a daemon's frames, a letter each, and of the paths that are asked for.
+struct Talks;
+
+impl Table for Talks {
+    fn told(alloc: Global, given: &str) -> Result<String, Fail> {
+        let (letters, paths) = given.split_once("; ").ok_or("paths")?;
+        let link = SureMemoryLink::new(alloc, frames(alloc, letters)?, 4096)?;
+        came(alloc, link, paths)
+    }
+}
+
+#[test]
+fn talks_come_to_their_outcomes(rt: HostRuntime) -> Result<(), Fail> {
+    // one document and two; a repeated chunk; a daemon that ends; a format that isn't known
+    const ROWS: &str = "\
+o1rn2e.; /d/a.txt => red 1
+o1rn2e.o1rn2e.; /d/a.txt /d/b.txt => red 2
+o1r1; /d/a.txt => died at 0
+o1rn2e.; /d/a.txt /d/b.txt => died at 1
+?; /d/a.txt => died at 0";
+    assert_eq!(rt; unmet::<Talks>(rt.alloc(), ROWS)?.as_str(), "");
+    Ok(())
+}
+
+// What came of so many documents, which are red.
+fn many_red(alloc: Global, count: usize) -> Result<String, Fail> {
+    let mut letters = String::new(alloc);
+    let mut paths = String::new(alloc);
+    for number in 0..count {
+        letters.push_str(RED)?;
+        let space = if number == 0 { "" } else { " " };
+        write!(paths, "{space}/d/{number}.txt")?;
+    }
+    let link = SureMemoryLink::new(alloc, frames(alloc, letters.as_str())?, 4096)?;
+    came(alloc, link, paths.as_str())
+}
+
+#[test]
+fn sixteen_documents_are_read(rt: HostRuntime) -> Result<(), Fail> {
+    assert_eq!(rt; many_red(rt.alloc(), 16)?.as_str(), "red 16");
+    Ok(())
+}
+
+// The call of a letter.
+fn call(alloc: Global, letter: char) -> Result<Call, Fail> {
+    Ok(match letter {
+        'I' => Call::Init {
+            flags: 80,
+            path: path(alloc, "/d/a.txt")?,
+        },
+        'T' => Call::GetText { max: 65_536 },
+        _ => Call::GetChunk,
+    })
+}
+
+fn calls(alloc: Global, letters: &str) -> Result<Vec<u8>, Fail> {
+    let mut bytes = Vec::new(alloc);
+    for letter in letters.chars() {
+        bytes.extend_from_slice(encode_call(alloc, &call(alloc, letter)?)?.items())?;
+    }
+    Ok(bytes)
+}
+
+// The bytes that are sent for one red document.
+fn sent(alloc: Global) -> Result<Vec<u8>, Fail> {
+    let link = SureMemoryLink::new(alloc, frames(alloc, RED)?, 2048)?;
+    let (_talk, link) = talked(alloc, link, "/d/a.txt")?;
+    Ok(Vec::from_slice(alloc, link.sent())?)
+}
+
+#[test]
+fn a_document_is_asked_for_call_by_call(rt: HostRuntime) -> Result<(), Fail> {
+    let wanted = calls(rt.alloc(), "IGTGGTG")?;
+    assert_eq!(rt; sent(rt.alloc())?.as_slice(), wanted.as_slice());
+    Ok(())
+}
+
+// What a talk and its copy came to.
+fn copied(alloc: Global, paths: &str) -> Result<String, Fail> {
+    let link = SureMemoryLink::new(alloc, frames(alloc, RED)?, 2048)?;
+    let (talk, _link) = talked(alloc, link, paths)?;
+    let copy = talk.copy(alloc)?;
+    let (one, other) = (shown(alloc, &talk)?, shown(alloc, &copy)?);
+    Ok(format!(in alloc; "{} {}", one.as_str(), other.as_str())?)
+}
+
 #[test]
 fn a_copied_talk_came_to_the_same(rt: HostRuntime) -> Result<(), Fail> {
-    let alloc = rt.alloc();
-    for (paths, wanted) in [
-        (["/d/a.txt"].as_slice(), "red 1"),
-        (["/d/a.txt", "/d/b.txt"].as_slice(), "died at 1"),
-    ] {
-        let link = SureMemoryLink::new(alloc, red(alloc)?, 2048)?;
-        let (talk, _link) = talked(alloc, link, paths)?;
-        let copied = talk.copy(alloc)?;
-        assert_eq!(rt; shown(alloc, &talk)?.as_str(), wanted);
-        assert_eq!(rt; shown(alloc, &copied)?.as_str(), wanted);
-    }
+    assert_eq!(rt; copied(rt.alloc(), "/d/a.txt")?.as_str(), "red 1 red 1");
+    let told = copied(rt.alloc(), "/d/a.txt /d/b.txt")?;
+    assert_eq!(rt; told.as_str(), "died at 1 died at 1");
     Ok(())
 }
 
-fn dies_at<L: Link + Drop>(
-    rt: &impl Abort,
-    alloc: Global,
-    link: L,
-    paths: &[&str],
-    place: u32,
-) -> Result<(), Fail> {
-    let (talk, _link) = talked(alloc, link, paths)?;
-    match talk {
-        Talk::Finished(_) => assert!(rt; false, "finished"),
-        Talk::Died { charged } => assert_eq!(rt; charged, place),
-    }
-    Ok(())
+fn failing_link(alloc: Global, fails: &[u64], room: usize) -> Result<MemoryLink, Fail> {
+    let fails = Vec::from_slice(alloc, fails)?;
+    Ok(MemoryLink::new(alloc, frames(alloc, RED)?, fails, room)?)
 }
 
-#[test]
-fn a_repeated_chunk_ends_the_talk(rt: HostRuntime) -> Result<(), Fail> {
-    let alloc = rt.alloc();
-    let answers = spelled(alloc, &[OPENED, CHUNK_ONE, LAST_RED, CHUNK_ONE])?;
-    let link = SureMemoryLink::new(alloc, answers, 2048)?;
-    dies_at(&rt, alloc, link, &["/d/a.txt"], 0)
-}
-
-#[test]
-fn a_daemon_that_ends_is_charged_to_its_document(rt: HostRuntime) -> Result<(), Fail> {
-    let alloc = rt.alloc();
-    let link = SureMemoryLink::new(alloc, red(alloc)?, 2048)?;
-    dies_at(&rt, alloc, link, &["/d/a.txt", "/d/b.txt"], 1)?;
-    let refused = spelled(alloc, &[UNKNOWN_FORMAT])?;
-    let link = SureMemoryLink::new(alloc, refused, 2048)?;
-    dies_at(&rt, alloc, link, &["/d/a.txt"], 0)
+// What a talk came to whose call with this number fails.
+fn failed(alloc: Global, failing: u64) -> Result<String, Fail> {
+    came(alloc, failing_link(alloc, &[failing], 2048)?, "/d/a.txt")
 }
 
 #[test]
 fn a_failed_call_ends_the_talk(rt: HostRuntime) -> Result<(), Fail> {
-    let alloc = rt.alloc();
     for failing in 0..6u64 {
-        let answers = red(alloc)?;
-        let fails = Vec::from_slice(alloc, &[failing])?;
-        let link = MemoryLink::new(alloc, answers, fails, 2048)?;
-        let copied = link.copy(alloc)?;
-        let (talk, _link) = talked(alloc, link, &["/d/a.txt"])?;
-        match talk {
-            Talk::Finished(_) => assert!(rt; failing > 1, "call {failing}"),
-            Talk::Died { charged } => assert_eq!(rt; charged, 0),
-        }
-        assert_eq!(rt; copied.sent(), b"".as_slice());
+        let told = failed(rt.alloc(), failing)?;
+        let ended = told.as_str() == "died at 0";
+        assert!(rt;
+            ended || (failing > 1 && told.as_str() == "red 1"),
+            "call {failing}"
+        );
     }
-    let answers = red(alloc)?;
-    let link = MemoryLink::new(alloc, answers, Vec::new(alloc), 20)?;
-    dies_at(&rt, alloc, link, &["/d/a.txt"], 0)
+    Ok(())
+}
+
+// What a talk came to over a link with little room, and how much the copy of that link has sent.
+fn in_little_room(alloc: Global) -> Result<String, Fail> {
+    let link = failing_link(alloc, &[], 20)?;
+    let copy = link.copy(alloc)?;
+    let told = came(alloc, link, "/d/a.txt")?;
+    Ok(format!(in alloc; "{} {}", told.as_str(), copy.sent().len())?)
+}
+
+#[test]
+fn a_link_without_room_ends_the_talk(rt: HostRuntime) -> Result<(), Fail> {
+    assert_eq!(rt; in_little_room(rt.alloc())?.as_str(), "died at 0 0");
+    Ok(())
 }
