@@ -3,6 +3,7 @@
 
 mod chunk;
 mod filter;
+mod outcome;
 mod piece;
 mod status;
 mod talk;
@@ -10,6 +11,7 @@ mod transcript;
 
 pub use chunk::{Break, ChunkState, StatChunk};
 pub use filter::Filter;
+pub use outcome::{Outcome, Outcomes};
 pub use piece::Piece;
 pub use status::Status;
 pub use talk::{Answer, Call, FilterStop};

@@ -1,30 +1,35 @@
 -- What a catalogue keeps as a batch is begun, and as one is finished.
-use Rattle.std.proofs.Common.{arith, All, Bool, Contains, IsTrue, ◌||◌, ◌≡◌, ◌≢◌, true, ◌∙◌, ◌==◌, ℕ, ◌+◌, List, [], ◌∷◌, ◌++◌, length, map, refl, ap, sym, subst, append-nil, if◌then◌else◌, false, take}
+use Rattle.std.proofs.Common.{arith, All, Bool, Contains, IsTrue, ◌||◌, ◌≡◌, ◌≢◌, true, ◌∙◌, ◌==◌, ℕ, ◌+◌, List, [], ◌∷◌, ◌++◌, length, map, refl, ap, sym, subst, append-nil, append_assoc, filter, if◌then◌else◌, false, take}
 use Rattle.std.proofs.lemmas.Bool.Decides.{nat_tests}
-use Rattle.std.proofs.lemmas.List.{map-append}
-use Rattle.std.proofs.lemmas.List.Elements.{All-weaker}
+use Rattle.std.proofs.lemmas.List.Elements.{All-append, All-weaker, filter_map-append}
 use Rattle.std.proofs.lemmas.List.Sums.{fold-append}
 use Rattle.ci_base.specs.declared.numbers.Seq.{Seq}
 use Rattle.ci_change.specs.declared.batch.Batch.{Batch}
 use Rattle.ci_change.specs.HandedIn.{HandedIn, is_known, was_noted, was_served, with_batch, without_batch}
 use Rattle.ci_change.specs.Pending as change
 use Rattle.ci_journal.specs.declared.event.Happened.TheVariants.{Begun, BatchDone}
-use Rattle.ci_journal.specs.declared.outcome.Outcome.{Outcome}
-use Rattle.ci_journal.specs.Completions.{Completion, begun, completed, completions_of, docs_out, free, numbers_of, out, without_number}
+use Rattle.ci_chunk.specs.declared.outcome.Outcome.{Outcome}
+use Rattle.ci_journal.specs.Filings.{batches, docs_out, fates, fates_at_end, out, without_number}
 use Rattle.ci_journal.specs.Folds.{notices}
-use Rattle.ci_journal.specs.Served.{Served, nothing_served, serve, served_by}
+use Rattle.ci_journal.specs.Pending.{free}
+use Rattle.ci_journal.specs.Served.{number_of, numbers_of, serve, served_by}
 use Rattle.ci_journal.specs.Step.{MayFinish}
-use Rattle.ci_journal.specs.Terms.{Terms}
+use Rattle.ci_journal.specs.Tells.{Filing, event}
+use Rattle.ci_journal.specs.Tells.Ending.{Through}
+use Rattle.ci_journal.specs.Terms.{Served, Terms, found_served}
 use Rattle.ci_core.specs.Batches.{CanFinish, IsNextBatch}
-use Rattle.ci_core.specs.Changes.{Adds, Stays, event}
+use Rattle.ci_core.specs.Changes.{Adds, Stays}
 use Rattle.ci_core.specs.Kept.{IsHolding, Shelf}
-use Rattle.ci_core.specs.Serving.{IsIndexable, entry_from, serve_entries}
+use Rattle.ci_core.specs.Serving.{AreServed, IsIndexable, entry_from, is_served, serve_entries}
 use Rattle.ci_core.specs.Sheet.{Sheet}
 use Rattle.ci_documents.specs.Documents.{KeepsEntries, Standings, StandFor}
 use Rattle.ci_core.proofs.KeptLemmas.{Follows, IsHolding-adds}
+use Rattle.ci_core.proofs.QueueLemmas.{IsQueue-silent}
 use Rattle.ci_core.proofs.OutLemmas.{docs_noted, docs_out-is, out_ascends, without_last}
 use Rattle.ci_core.proofs.ServedLemmas.{served_by-numbers}
-use Rattle.ci_core.proofs.ServingLemmas.{numbers-outcomes, served-outcomes}
+use Rattle.ci_core.proofs.ServingLemmas.{AreServed-outcomes, numbers-outcomes, served-outcomes}
+use Rattle.ci_core.proofs.StepLemmas.{no_shadow}
+use Rattle.ci_core.proofs.PendingLemmas.{pending-unserved}
 
 pub none-when : (docs : List (List ℕ × Seq)) → true ≡ (length docs == 0) → docs ≡ []
 none-when [] e = refl
@@ -47,11 +52,11 @@ module _ (terms : Terms) (old : Sheet) (shelf : Shelf) (kept : IsHolding terms o
   Kept new after = IsHolding terms new after
 
   -- the change list has free what the journal has
-  pub free_is : change.free shelf.changes ≡ free old.events
-  free_is = rw (kept.tracks.notices, kept.tracks.served, kept.tracks.out) refl
+  pub free_is : change.free shelf.changes ≡ free terms old.events
+  free_is = rw (kept.tracks.notices, kept.tracks.served, kept.tracks.out) (ap (filter (change.is_free (out old.events))) (sym (pending-unserved terms old.events kept.starts kept.served)))
 
   -- the batch that was taken, where it has documents
-  pub taken-next : (max : ℕ) (batch : Batch) → batch ≡ record { number = shelf.begun + 1; docs = change.docs_of (take max (change.free shelf.changes)) } → batch.docs ≢ [] → IsNextBatch old.events max batch
+  pub taken-next : (max : ℕ) (batch : Batch) → batch ≡ record { number = shelf.begun + 1; docs = change.docs_of (take max (change.free shelf.changes)) } → batch.docs ≢ [] → IsNextBatch terms old.events max batch
   taken-next max batch is some = record {
     number = ap (λ (b : Batch). b.number) is ∙ ap (λ n. n + 1) kept.counts.begun;
     docs = ap (λ (b : Batch). b.docs) is ∙ ap (λ ns. change.docs_of (take max ns)) free_is;
@@ -59,19 +64,20 @@ module _ (terms : Terms) (old : Sheet) (shelf : Shelf) (kept : IsHolding terms o
   }
 
   -- a batch was begun
-  pub begun-kept : (ready new : Sheet) (by max : ℕ) (batch : Batch) (after : HandedIn) → IsNextBatch old.events max batch → Stays old ready → after ≡ with_batch shelf.changes batch →
+  pub begun-kept : (ready new : Sheet) (by max : ℕ) (batch : Batch) (after : HandedIn) → IsNextBatch terms old.events max batch → Stays old ready → after ≡ with_batch shelf.changes batch →
       Adds ready new (event by (Begun batch)) → Kept new (record shelf { changes = after; begun = shelf.begun + 1 })
   begun-kept ready new by max batch after next stays handed adds =
       let after_begin : Shelf = record shelf { changes = after; begun = shelf.begun + 1 } in
       let follows : Follows terms old (event by (Begun batch)) shelf after_begin = record {
         may = record { next = next.number; some = next.some; most = max; first = next.docs };
+        alone = refl;
         indexable = tt;
+        filed = kept.served;
         requests = omega arith;
         replies = omega arith;
         noted = omega arith;
         begun = omega arith;
-        taken = omega arith;
-        waits = sym (append-nil _);
+        waits = IsQueue-silent terms old.events (event by (Begun batch)) shelf.waiting refl refl kept.waits;
         marks = refl;
         notices = ap (λ (h : HandedIn). h.notices) handed ∙ sym (append-nil _);
         served = ap (λ (h : HandedIn). h.served) handed ∙ kept.tracks.served;
@@ -81,36 +87,40 @@ module _ (terms : Terms) (old : Sheet) (shelf : Shelf) (kept : IsHolding terms o
       IsHolding-adds terms old ready new _ shelf after_begin kept stays adds follows
 
   -- a batch that was taken and given back leaves the change list as it was
-  pub given_back : (batch : Batch) → batch.docs ≢ [] → batch.number ≡ length (begun old.events) + 1 → without_batch (with_batch shelf.changes batch) batch.number ≡ shelf.changes
+  pub given_back : (batch : Batch) → batch.docs ≢ [] → batch.number ≡ length (batches old.events) + 1 → without_batch (with_batch shelf.changes batch) batch.number ≡ shelf.changes
   given_back batch some next =
       ap (λ bs. let h : HandedIn = record shelf.changes { out = bs } in h)
       (ap (λ bs. without_number bs batch.number) (out_more shelf.changes.out batch batch.docs some ∙ ap (λ bs. bs ++ batch ∷ []) kept.tracks.out)
-      ∙ without_last (length (begun old.events)) (out old.events) batch (out_ascends terms old.events kept.run) (omega (arith, next)) ∙ sym kept.tracks.out)
+      ∙ without_last (length (batches old.events)) (out old.events) batch (out_ascends terms old.events kept.run) (omega (arith, next)) ∙ sym kept.tracks.out)
 
   -- its documents are known to the change list
   pub docs_known : (batch : Batch) → Contains (out old.events) batch → (items : List (List ℕ × Seq)) → items ≡ batch.docs → All (λ (doc : List ℕ × Seq). IsTrue (is_known shelf.changes doc.0)) items
   docs_known batch here items same =
       subst (All (λ (doc : List ℕ × Seq). IsTrue (is_known shelf.changes doc.0))) (sym same)
-      (All-weaker (λ (doc : List ℕ × Seq). was_noted (notices old.events) doc.0 ≡ true) (λ (doc : List ℕ × Seq). IsTrue (is_known shelf.changes doc.0))
+      (All-weaker (λ (doc : List ℕ × Seq). was_noted (notices terms old.events) doc.0 ≡ true) (λ (doc : List ℕ × Seq). IsTrue (is_known shelf.changes doc.0))
       (λ doc noted. known_or _ (was_served shelf.changes.served doc.0) (ap (λ ns. was_noted ns doc.0) kept.tracks.notices ∙ noted)) batch.docs (docs_noted terms old.events kept.run batch here))
 
-  filed_is : (by : ℕ) (batch : Batch) (outcomes : List Outcome) → CanFinish old.events by batch outcomes → completions_of (docs_out (out old.events) batch.number) outcomes ≡ completions_of batch.docs outcomes
-  filed_is by batch outcomes can = ap (λ ds. completions_of ds outcomes) (docs_out-is terms old.events kept.run batch can.is_out)
+  filed_is : (by : ℕ) (batch : Batch) (outcomes : List Outcome) → CanFinish old.events by batch outcomes → fates_at_end (docs_out (out old.events) batch.number) (Through outcomes) ≡ fates_at_end batch.docs (Through outcomes)
+  filed_is by batch outcomes can = ap (λ ds. fates_at_end ds (Through outcomes)) (docs_out-is terms old.events kept.run batch can.is_out)
 
   -- what was served behind a batch that is finished
-  stands_behind : (by : ℕ) (batch : Batch) (outcomes : List Outcome) → CanFinish old.events by batch outcomes →
-      served_by terms (completed old.events ++ completions_of (docs_out (out old.events) batch.number) outcomes) ≡ serve_entries (served_by terms (completed old.events)) batch.docs (map (entry_from terms.noise) outcomes)
-  stands_behind by batch outcomes can =
-      ap (λ cs. served_by terms (completed old.events ++ cs)) (filed_is by batch outcomes can)
-      ∙ fold-append (serve terms) nothing_served (completed old.events) (completions_of batch.docs outcomes)
-      ∙ served-outcomes terms (served_by terms (completed old.events)) batch.docs outcomes
+  stands_behind : (by : ℕ) (batch : Batch) (outcomes : List Outcome) → CanFinish old.events by batch outcomes → All IsIndexable outcomes →
+      served_by terms (fates old.events ++ fates_at_end (docs_out (out old.events) batch.number) (Through outcomes)) ≡ serve_entries (served_by terms (fates old.events)) batch.docs (map (entry_from terms.noise) outcomes)
+  stands_behind by batch outcomes can done =
+      ap (λ fs. served_by terms (fates old.events ++ fs)) (filed_is by batch outcomes can)
+      ∙ fold-append (serve terms) (found_served terms.beginning) (fates old.events) (fates_at_end batch.docs (Through outcomes))
+      ∙ served-outcomes terms (served_by terms (fates old.events)) batch.docs outcomes done
 
-  numbers_behind : (by : ℕ) (batch : Batch) (outcomes : List Outcome) → CanFinish old.events by batch outcomes →
-      shelf.changes.served ++ batch.docs ≡ numbers_of (completed old.events ++ completions_of (docs_out (out old.events) batch.number) outcomes)
-  numbers_behind by batch outcomes can =
+  numbers_behind : (by : ℕ) (batch : Batch) (outcomes : List Outcome) → CanFinish old.events by batch outcomes → All IsIndexable outcomes →
+      shelf.changes.served ++ batch.docs ≡ terms.beginning.numbers ++ numbers_of (fates old.events ++ fates_at_end (docs_out (out old.events) batch.number) (Through outcomes))
+  numbers_behind by batch outcomes can done =
+      let first = terms.beginning.numbers in
+      let before = numbers_of (fates old.events) in
       ap (λ ns. ns ++ batch.docs) kept.tracks.served
-      ∙ ap (λ ds. numbers_of (completed old.events) ++ ds) (sym (ap numbers_of (filed_is by batch outcomes can) ∙ numbers-outcomes batch.docs outcomes can.each))
-      ∙ sym (map-append (λ (d : Completion). (d.path, d.seq)) (completed old.events) _)
+      ∙ append_assoc first before batch.docs
+      ∙ ap (λ ns. first ++ ns)
+      (ap (λ ds. before ++ ds) (sym (ap numbers_of (filed_is by batch outcomes can) ∙ numbers-outcomes batch.docs outcomes done can.each))
+      ∙ sym (filter_map-append number_of (fates old.events) (fates_at_end (docs_out (out old.events) batch.number) (Through outcomes))))
 
   -- a batch was finished
   pub finished-kept : (ready new : Sheet) (by : ℕ) (batch : Batch) (outcomes : List Outcome) (served after : HandedIn) (mid documents : Standings) → CanFinish old.events by batch outcomes → All IsIndexable outcomes → Stays old ready → KeepsEntries shelf.documents mid →
@@ -119,21 +129,23 @@ module _ (terms : Terms) (old : Sheet) (shelf : Shelf) (kept : IsHolding terms o
       Adds ready new (event by (BatchDone batch.number outcomes)) → Kept new (record shelf { documents = documents; changes = after })
   finished-kept ready new by batch outcomes served after mid documents can indexable stays keeps handed given serves adds =
       let after_finishing : Shelf = record shelf { documents = documents; changes = after } in
-      let may : MayFinish old.events by batch.number outcomes = record { batch = batch; is_out = can.is_out; numbered = refl; own = can.own; each = can.each } in
+      let may : MayFinish old.events by batch.number outcomes = (batch, record { is_out = can.is_out; numbered = refl; own = can.own }, can.each) in
       let follows : Follows terms old (event by (BatchDone batch.number outcomes)) shelf after_finishing = record {
         may = may;
+        alone = ap (λ es. es ++ event by (BatchDone batch.number outcomes) ∷ []) (no_shadow terms old.events by kept.starts);
         indexable = indexable;
+        filed = subst (λ fs. AreServed (fates old.events ++ fs)) (sym (filed_is by batch outcomes can))
+            (All-append (λ (f : Filing). is_served f.fate ≡ true) (fates old.events) (fates_at_end batch.docs (Through outcomes)) kept.served (AreServed-outcomes batch.docs outcomes indexable));
         requests = omega arith;
         replies = omega arith;
         noted = omega arith;
         begun = omega arith;
-        taken = omega arith;
-        waits = sym (append-nil _);
+        waits = IsQueue-silent terms old.events (event by (BatchDone batch.number outcomes)) shelf.waiting refl refl kept.waits;
         marks = refl;
         notices = ap (λ (h : HandedIn). h.notices) given ∙ ap (λ (h : HandedIn). h.notices) handed ∙ sym (append-nil _);
-        served = ap (λ (h : HandedIn). h.served) given ∙ ap (λ (h : HandedIn). h.served) handed ∙ numbers_behind by batch outcomes can;
+        served = ap (λ (h : HandedIn). h.served) given ∙ ap (λ (h : HandedIn). h.served) handed ∙ numbers_behind by batch outcomes can indexable;
         out = ap (λ (h : HandedIn). h.out) given ∙ ap (λ (h : HandedIn). (without_batch h batch.number).out) handed ∙ ap (λ bs. (without_batch (record shelf.changes { out = bs }) batch.number).out) kept.tracks.out;
-        stands = subst (λ (s : Served). StandFor s.documents documents) (sym (stands_behind by batch outcomes can))
-            (serves (served_by terms (completed old.events)) (served_by-numbers terms (completed old.events) ∙ sym kept.tracks.served) (λ path. kept.stands path ∙ sym (keeps.entries path)));
+        stands = subst (λ (s : Served). StandFor s.documents documents) (sym (stands_behind by batch outcomes can indexable))
+            (serves (served_by terms (fates old.events)) (served_by-numbers terms (fates old.events) ∙ sym kept.tracks.served) (λ path. kept.stands path ∙ sym (keeps.entries path)));
       } in
       IsHolding-adds terms old ready new _ shelf after_finishing kept stays adds follows

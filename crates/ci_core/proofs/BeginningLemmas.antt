@@ -3,12 +3,12 @@ use Rattle.std.proofs.Common.{◌≡◌, ◌∙◌, ⊎_elim, inl, inr, ℕ, len
 use Rattle.ci_change.specs.declared.batch.Batch.{Batch}
 use Rattle.ci_journal.specs.declared.event.Happened.{Happened}
 use Rattle.ci_journal.specs.declared.event.Happened.TheVariants.{Begun}
-use Rattle.ci_journal.specs.Completions.{numbered}
+use Rattle.ci_journal.specs.Folds.{numbered_paths}
+use Rattle.ci_journal.specs.Tells.{event}
 use Rattle.ci_core.specs.declared.core_fault.CoreFault.{CoreFault}
 use Rattle.ci_core.specs.declared.refusal.Refusal.{Refusal}
 use Rattle.ci_core.specs.Batches.{Begins, HaltsBeginning, IsNextBatch, RefusesBeginning}
 use Rattle.ci_core.specs.Catalog.{IsCatalog}
-use Rattle.ci_core.specs.Changes.{event}
 use Rattle.ci_core.specs.Core.{Core}
 use Rattle.ci_core.specs.Fixed.{KeepsFixed, PrintsAfter}
 use Rattle.ci_core.specs.Refusal.{tried_at}
@@ -18,7 +18,7 @@ use Rattle.ci_core.proofs.CatalogLemmas.{IsCatalog-step, IsStep, KeepsFixed-step
 
 -- why no batch was begun, as it is told
 pub HaltsBeginning-of : (old new : Core) (by max : ℕ) (batch : Batch) (fault told_fault : CoreFault) (tried : Option Happened) → told_fault ≡ fault → tried ≡ tried_at fault (Begun batch)
-    → IsNextBatch old.sheet.events max batch → Halts old new (event by (Begun batch)) fault → HaltsBeginning old new by max told_fault tried
+    → IsNextBatch old.terms old.sheet.events max batch → Halts old new (event by (Begun batch)) fault → HaltsBeginning old new by max told_fault tried
 HaltsBeginning-of old new by max batch fault told_fault tried e f next halts = rw (e, f) (inr (batch, next, refl, halts))
 
 module _ (old made : Core) (earlier : Option Refusal) (by max : ℕ) (unrefused : earlier ≡ None) where
@@ -29,7 +29,7 @@ module _ (old made : Core) (earlier : Option Refusal) (by max : ℕ) (unrefused 
   abbrev refused_as : CoreFault → Option Happened → Option Refusal
   refused_as fault tried = Some (record { by = by; at = length old.sheet.events; fault = fault; tried = tried })
 
-  step-begun : (batch : Batch) → IsNextBatch old.sheet.events max batch → Makes old made (event by (Begun batch)) → IsStep {T = Batch} old made earlier (event by (Begun batch)) (Ok batch) earlier
+  step-begun : (batch : Batch) → IsNextBatch old.terms old.sheet.events max batch → Makes old made (event by (Begun batch)) → IsStep {T = Batch} old made earlier (event by (Begun batch)) (Ok batch) earlier
   step-begun batch next makes = record {
     unrefused = unrefused;
     may = record { next = next.number; some = next.some; most = max; first = next.docs };
@@ -39,7 +39,7 @@ module _ (old made : Core) (earlier : Option Refusal) (by max : ℕ) (unrefused 
     told = tt;
   }
 
-  step-refused : (batch : Batch) (fault : CoreFault) (tried : Option Happened) → IsNextBatch old.sheet.events max batch → tried ≡ tried_at fault (Begun batch) → Halts old made (event by (Begun batch)) fault
+  step-refused : (batch : Batch) (fault : CoreFault) (tried : Option Happened) → IsNextBatch old.terms old.sheet.events max batch → tried ≡ tried_at fault (Begun batch) → Halts old made (event by (Begun batch)) fault
       → IsStep {T = Batch} old made earlier (event by (Begun batch)) (Err fault) (refused_as fault tried)
   step-refused batch fault tried next told halts = record {
     unrefused = unrefused;
@@ -55,7 +55,7 @@ module _ (old made : Core) (earlier : Option Refusal) (by max : ℕ) (unrefused 
   pub IsCatalog-begun : (batch : Option Batch) → Begins old made by max batch → IsCatalog held → IsCatalog (record made { refusal = earlier })
   IsCatalog-begun None begins catalog =
       let noted = noted-now held catalog.numbered unrefused in
-      rw unrefused (record { numbered = begins.1.numbered ∙ noted ∙ ap numbered (sym begins.1.stays.events); cause = tt })
+      rw unrefused (record { numbered = begins.1.numbered ∙ noted ∙ sym (ap (λ t. numbered_paths t made.sheet.events) begins.1.told.terms ∙ ap (numbered_paths old.terms) begins.1.stays.events); cause = tt })
   IsCatalog-begun (Some batch) begins catalog =
       IsCatalog-step {T = Batch} old made earlier (event by (Begun batch)) (Ok batch) earlier (step-begun batch begins.0 begins.1) catalog
 

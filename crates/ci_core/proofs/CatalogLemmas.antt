@@ -1,34 +1,36 @@
 -- What the catalogue keeps of a step, whose refusal is kept.
-use Rattle.std.proofs.Common.{arith, ◌≡◌, ◌∙◌, ⊎_elim, inl, inr, ℕ, ◌<◌, List, [], ◌∷◌, ◌++◌, length, take, slice_get, fold, Option, Some, None, Result, Ok, Err, OnOk, IfOk, IfErr, option_to_list, refl, ap, sym, subst, length-append, append_assoc}
+use Rattle.std.proofs.Common.{arith, ◌≡◌, ◌∙◌, ⊎_elim, inl, inr, ℕ, ◌<◌, List, [], ◌∷◌, ◌++◌, length, take, fold, map, Option, Some, None, Result, Ok, Err, OnOk, IfOk, IfErr, option_to_list, refl, ap, sym, subst, length-append, append_assoc}
 use Rattle.std.specs.Io.KnownBytes.{Appends, Keeps}
-use Rattle.std.specs.Option.{option_map}
 use Rattle.std.proofs.lemmas.List.{take-append-le, take_all}
-use Rattle.std.proofs.lemmas.List.Sums.{fold-append}
 use Rattle.ci_io.specs.Causes.{Rose}
 use Rattle.ci_change.specs.declared.notice.Notice.{Notice}
 use Rattle.ci_journal.specs.declared.event.Event.{Event}
 use Rattle.ci_journal.specs.declared.event.Happened.{Happened}
-use Rattle.ci_journal.specs.declared.event.Happened.TheVariants.{Asked, Noted, Put, Erased, Begun, BatchDone, Opened, Answered, Said}
+use Rattle.ci_journal.specs.declared.event.Happened.TheVariants.{Asked, Noted, Put, Erased, Started, StartFailed, DaemonLost, Begun, BatchDone, BatchDied, Returned, Shadowed, MasterBegun, MasterStep, MasterEnded, Opened, Answered, Said}
 use Rattle.ci_journal.specs.Printed.{lines_of, printed}
 use Rattle.ci_journal.specs.Bytes.{journal_bytes}
-use Rattle.ci_journal.specs.Completions.{numbered, with_path}
-use Rattle.ci_journal.specs.Folds.{notice_in, notices, unopened}
+use Rattle.ci_dialect.specs.declared.restriction.Restriction.{Restriction}
+use Rattle.ci_journal.specs.Folds.{numbered_paths, with_path}
+use Rattle.ci_journal.specs.Queries.{IsFirstWaiting}
 use Rattle.ci_journal.specs.Step.{May}
-use Rattle.ci_journal.proofs.FoldsLemmas.{notices-push, printed-push, slice_get-push}
+use Rattle.ci_journal.specs.Tells.{event, tells}
+use Rattle.ci_journal.specs.Terms.{Terms}
+use Rattle.ci_journal.proofs.FoldsLemmas.{numbered_paths-push, printed-push, slice_get-push}
 use Rattle.ci_core.specs.declared.core_fault.CoreFault.{CoreFault}
 use Rattle.ci_core.specs.declared.core_fault.CoreFault.TheVariants.{TooManyDocuments, JournalFull, OutOfMemory, WriteFault, Ended}
 use Rattle.ci_core.specs.declared.refusal.Refusal.{Refusal}
 use Rattle.ci_core.specs.Catalog.{CausedBy, IsCatalog, NumbersAfter, NumbersNoted, NumbersUnless}
 use Rattle.ci_core.specs.declared.question.Question.{Question}
-use Rattle.ci_core.specs.Changes.{Adds, Breaks, Stays, event}
+use Rattle.ci_core.specs.Changes.{Adds, Breaks, Stays}
 use Rattle.ci_core.specs.Core.{Core}
-use Rattle.ci_core.specs.Fixed.{Fixed, HasFixed, KeepsFixed, PrintsAfter, PrintsAll, PrintsAt, PrintsCut}
+use Rattle.ci_core.specs.Fixed.{BreaksOff, Fixed, HasFixed, KeepsFixed, PrintsAfter, PrintsAll, PrintsAt}
 use Rattle.ci_core.specs.Refusal.{tried_at}
 use Rattle.ci_core.specs.Refusals.{Halts, IsCrowded, Refuses}
 use Rattle.ci_core.specs.Sheet.{Sheet}
 use Rattle.ci_core.specs.Opening.{OpensFirst, RefusesOpening}
 use Rattle.ci_core.specs.Steps.{Makes, Rests, Told, with_noted}
 use Rattle.ci_core.proofs.HaltsLemmas.{Stays-refl, Told-refl}
+use Rattle.ci_core.proofs.QueueLemmas.{same_first}
 
 -- a step that adds an event was made or refused, and a refusal is kept
 pub record IsStep {T : Type 0} (before made : Core) (earlier : Option Refusal) (event : Event) (result : Result T CoreFault) (refusal : Option Refusal) : Type 0 where
@@ -54,10 +56,14 @@ made-as number there P (Err fault) same made = tt
 
 -- ---- the paths that are numbered
 
-numbered-push : (journal : List Event) (e : Event) → numbered (journal ++ e ∷ []) ≡ with_noted (numbered journal) e.what
-numbered-push journal e =
-    ap (λ ns. fold (λ so_far (n : Notice). with_path so_far n.path) [] ns) (notices-push journal e)
-    ∙ fold-append (λ so_far (n : Notice). with_path so_far n.path) [] (notices journal) (option_to_list (notice_in e.what))
+-- the paths that are numbered, with those that the event notes
+numbered-now : (old made : Core) (event : Event) → made.terms ≡ old.terms → made.sheet.events ≡ old.sheet.events ++ event ∷ []
+    → numbered_paths made.terms made.sheet.events ≡ with_noted (numbered_paths old.terms old.sheet.events) event.what
+numbered-now old made event told events =
+    ap (λ (t : Terms). numbered_paths t made.sheet.events) told ∙ ap (numbered_paths old.terms) events ∙ numbered_paths-push old.terms old.sheet.events event
+
+numbered-same : (old made : Core) → made.terms ≡ old.terms → made.sheet.events ≡ old.sheet.events → numbered_paths made.terms made.sheet.events ≡ numbered_paths old.terms old.sheet.events
+numbered-same old made told events = ap (λ (t : Terms). numbered_paths t made.sheet.events) told ∙ ap (numbered_paths old.terms) events
 
 pub noted-now : (core : Core) → NumbersAfter core core.refusal → core.refusal ≡ None → NumbersNoted core
 noted-now core numbers none = subst (NumbersAfter core) none numbers
@@ -104,26 +110,35 @@ limit-refused old made event WriteFault halts = halts.1.0.limit
 limit-refused old made event Ended halts = absurd halts.1
 
 -- what prints notes nothing
-prints-unnoted : (what : Happened) → 0 < length (lines_of what) → notice_in what ≡ None
+prints-unnoted : (what : Happened) → 0 < length (lines_of what) → (tells what).notice ≡ None
 prints-unnoted (Asked id request) some = refl
 prints-unnoted (Noted notice) some = absurd (omega (arith, some))
 prints-unnoted (Put path seq transcript) some = refl
 prints-unnoted (Erased path seq) some = refl
+prints-unnoted Started some = refl
+prints-unnoted StartFailed some = refl
+prints-unnoted DaemonLost some = refl
 prints-unnoted (Begun batch) some = refl
 prints-unnoted (BatchDone number outcomes) some = refl
+prints-unnoted (BatchDied number charged) some = refl
+prints-unnoted (Returned number) some = refl
+prints-unnoted Shadowed some = refl
+prints-unnoted MasterBegun some = refl
+prints-unnoted (MasterStep split) some = refl
+prints-unnoted MasterEnded some = refl
 prints-unnoted (Opened id) some = refl
 prints-unnoted (Answered id at paths) some = refl
 prints-unnoted (Said id reply) some = refl
 
 numbers-refused : (old made : Core) (event : Event) (fault : CoreFault) (refusal : Option Refusal) → NumbersNoted old → Halts old made event fault → NumbersUnless (record made { refusal = refusal }) fault
-numbers-refused old made event TooManyDocuments refusal noted halts = halts.1.2 ∙ noted ∙ ap numbered (sym halts.1.1.events)
-numbers-refused old made event (JournalFull used more) refusal noted halts = halts.1.1 ∙ noted ∙ ap numbered (sym halts.1.0.stays.events)
+numbers-refused old made event TooManyDocuments refusal noted halts = halts.1.2 ∙ noted ∙ sym (numbered-same old made halts.0.terms halts.1.1.events)
+numbers-refused old made event (JournalFull used more) refusal noted halts = halts.1.1 ∙ noted ∙ sym (numbered-same old made halts.0.terms halts.1.0.stays.events)
 numbers-refused old made event OutOfMemory refusal noted halts = tt
 numbers-refused old made event WriteFault refusal noted halts =
     let cut = halts.1.0.written in
     let unnoted = prints-unnoted event.what (omega (arith, cut.1)) in
-    halts.1.1 ∙ noted ∙ sym (ap numbered halts.1.0.events ∙ numbered-push old.sheet.events event
-    ∙ ap (λ (o : Option Notice). fold (λ so_far (n : Notice). with_path so_far n.path) (numbered old.sheet.events) (option_to_list o)) unnoted)
+    halts.1.1 ∙ noted ∙ sym (numbered-now old made event halts.0.terms halts.1.0.events
+    ∙ ap (λ (o : Option Notice). fold with_path (numbered_paths old.terms old.sheet.events) (map (λ (n : Notice). n.path) (option_to_list o))) unnoted)
 numbers-refused old made event Ended refusal noted halts = absurd halts.1
 
 -- refusals that are kept change nothing of what the step left
@@ -173,14 +188,18 @@ prints-adds fixed old new event prints adds = record {
   faults = adds.faults ∙ prints.faults;
 }
 
-prints-breaks : (fixed : Fixed) (old new : Sheet) (event : Event) → PrintsAll fixed old → Breaks old new event → PrintsCut fixed new
+prints-breaks : (fixed : Fixed) (old new : Sheet) (event : Event) → PrintsAll fixed old → Breaks old new event → BreaksOff fixed new
 prints-breaks fixed old new event prints breaks = record {
-  front = old.events;
-  last = event;
-  events = breaks.events;
-  count = breaks.written.0;
-  short = breaks.written.1;
-  written = printed-more fixed.written old.written new.written (printed old.events) (take breaks.written.0 (lines_of event.what)) prints.written breaks.written.2;
+  cut = record {
+    front = old.events;
+    last = event;
+    ends = [];
+    events = breaks.events;
+    each = λ k d within. absurd (omega (arith, within));
+    count = breaks.written.0;
+    short = breaks.written.1;
+    written = printed-more fixed.written old.written new.written (printed old.events) (take breaks.written.0 (lines_of event.what)) prints.written breaks.written.2;
+  };
   rose = subst (λ faults. Rose faults new.faults) prints.faults breaks.rose;
 }
 
@@ -216,7 +235,7 @@ module _ {T : Type 0} (old made : Core) (earlier : Option Refusal) (event : Even
       by : (r : Result T CoreFault) → OnOk r (Makes old made event) → IfErr r (Halts old made event) → OnOk r (refusal ≡ earlier) → IfErr r Told_at → IsCatalog (record made { refusal = refusal })
       by (Ok x) makes halts kept told =
           rw (kept, step.unrefused) (record {
-            numbered = makes.numbered ∙ ap (λ ns. with_noted ns event.what) noted ∙ sym (ap numbered makes.adds.events ∙ numbered-push old.sheet.events event);
+            numbered = makes.numbered ∙ ap (λ ns. with_noted ns event.what) noted ∙ sym (numbered-now old made event makes.told.terms makes.adds.events);
             cause = tt;
           })
       by (Err fault) makes halts kept told =
@@ -252,37 +271,36 @@ module _ {T : Type 0} (old made : Core) (earlier : Option Refusal) (event : Even
 pub Rests-refl : (core : Core) → Rests core core
 Rests-refl core = record { stays = Stays-refl core.sheet; told = Told-refl core; numbered = refl }
 
--- the first query that waits, by its request
-pub first-of : (first : Option (ℕ × List ℕ)) (id : ℕ) → Some id ≡ option_map (λ q. q.0) first → (word : List ℕ) × (first ≡ Some (id, word))
-first-of None id e = absurd (cc)
-first-of (Some q) id e = let same : id ≡ q.0 = cc in (q.1, ap (λ (n : ℕ). Some (n, q.1)) (sym same))
-
-pub none-waits : (waits : List (ℕ × List ℕ)) → None ≡ option_map (λ (q : ℕ × List ℕ). q.0) (slice_get waits 0) → waits ≡ []
-none-waits [] e = refl
-none-waits (q ∷ waits) e = absurd (cc)
-
-same_first : (first : Option (ℕ × List ℕ)) (id other : ℕ) (word more : List ℕ) → first ≡ Some (id, word) → first ≡ Some (other, more) → id ≡ other
-same_first None id other word more e f = absurd (cc)
-same_first (Some q) id other word more e f =
-    let one : q ≡ (id, word) = cc in
-    let two : q ≡ (other, more) = cc in
-    sym (ap (λ (p : ℕ × List ℕ). p.0) one) ∙ ap (λ (p : ℕ × List ℕ). p.0) two
+-- what opening gives is told of the catalogue without its refusal
+pub OpensFirst-kept : (before after : Core) (one other : Option Refusal) (by : ℕ) (result : Result (Option Question) CoreFault) → IfOk result (OpensFirst before after by)
+    → IfOk result (OpensFirst (record before { refusal = one }) (record after { refusal = other }) by)
+OpensFirst-kept before after one other by (Err fault) opens = tt
+OpensFirst-kept before after one other by (Ok None) opens =
+    let rests = opens.1 in
+    (opens.0, record { stays = rests.stays; told = record { terms = rests.told.terms; most = rests.told.most }; numbered = rests.numbered })
+OpensFirst-kept before after one other by (Ok (Some question)) opens =
+    let makes = opens.makes in
+    record {
+      makes = record { adds = makes.adds; told = record { terms = makes.told.terms; most = makes.told.most }; numbered = makes.numbered };
+      first = opens.first;
+      at = opens.at;
+      plain = opens.plain;
+    }
 
 -- opening the first query that waits adds its event
-pub opening-made : (old new : Core) (by id : ℕ) (word : List ℕ) (result : Result (Option Question) CoreFault) → slice_get (unopened old.sheet.events) 0 ≡ Some (id, word) → IfOk result (OpensFirst old new by)
+pub opening-made : (old new : Core) (by id : ℕ) (tree : Restriction) (result : Result (Option Question) CoreFault) → IsFirstWaiting old.terms old.sheet.events id tree → IfOk result (OpensFirst old new by)
     → OnOk result (Makes old new (event by (Opened id)))
-opening-made old new by id word (Err fault) first opens = tt
-opening-made old new by id word (Ok None) first opens =
-    let none : slice_get (unopened old.sheet.events) 0 ≡ None = ap (λ qs. slice_get qs 0) opens.0 in absurd (cc)
-opening-made old new by id word (Ok (Some question)) first opens =
-    subst (λ (n : ℕ). Makes old new (event by (Opened n))) (same_first _ question.id id question.word word opens.first first) opens.makes
+opening-made old new by id tree (Err fault) first opens = tt
+opening-made old new by id tree (Ok None) first opens = absurd (opens.0 id tree first.waits)
+opening-made old new by id tree (Ok (Some question)) first opens =
+    subst (λ (n : ℕ). Makes old new (event by (Opened n))) (same_first old.terms old.sheet.events question.id id question.tree tree opens.first first) opens.makes
 
 -- and its refusal is that of this event
 pub RefusesOpening-of : {T : Type 0} (old new : Core) (by id : ℕ) (result : Result T CoreFault) → IfErr result (Refuses old new (event by (Opened id))) → IfErr result (RefusesOpening old new by)
 RefusesOpening-of old new by id (Ok x) refused = tt
 RefusesOpening-of old new by id (Err fault) refused = ⊎_elim (λ over. inl over) (λ first. inr (id, first)) refused
 
-pub halts-first : {T : Type 0} (P : ℕ → CoreFault → Type 0) (first : Option (ℕ × List ℕ)) (id : ℕ) (word : List ℕ) (result : Result T CoreFault)
-    → IfErr result (λ fault. (i : ℕ) (w : List ℕ) → first ≡ Some (i, w) → P i fault) → first ≡ Some (id, word) → IfErr result (P id)
-halts-first P first id word (Ok x) halts is = tt
-halts-first P first id word (Err fault) halts is = halts id word is
+pub halts-first : {T : Type 0} (First : ℕ → Restriction → Type 0) (P : ℕ → CoreFault → Type 0) (id : ℕ) (tree : Restriction) (result : Result T CoreFault)
+    → IfErr result (λ fault. (i : ℕ) (t : Restriction) → First i t → P i fault) → First id tree → IfErr result (P id)
+halts-first First P id tree (Ok x) halts is = tt
+halts-first First P id tree (Err fault) halts is = halts id tree is

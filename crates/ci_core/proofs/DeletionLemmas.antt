@@ -11,8 +11,10 @@ use Rattle.ci_change.specs.Pending.{kinds, served_number, with_path}
 use Rattle.ci_change.specs.Pending as change
 use Rattle.ci_keys.proofs.OneForm.{Contains-cons_cases, Contains-first, Contains-later, Contains-map, none_in_empty}
 use Rattle.ci_journal.specs.declared.event.Event.{Event}
-use Rattle.ci_journal.specs.Completions.{completed, numbers_of, pending}
 use Rattle.ci_journal.specs.Folds.{notices}
+use Rattle.ci_journal.specs.Pending.{unserved_notices}
+use Rattle.ci_journal.specs.Served.{served_numbers}
+use Rattle.ci_journal.specs.Terms.{Terms}
 use Rattle.ci_journal.specs.Step.{MayErase}
 use Rattle.ci_core.specs.Kept.{Tracks}
 
@@ -64,18 +66,18 @@ shown-of_path path notices seq what here =
     Contains-map (λ (n : Notice). (n.seq, n.what)) (with_path path notices) (record { path = path; seq = seq; what = what }) (with_path-has path notices (record { path = path; seq = seq; what = what }) refl here)
 
 -- what the change list has pending is what the journal tells
-pub pending-tracks : (events : List Event) (changes : HandedIn) → Tracks events changes → change.pending changes ≡ pending events
-pending-tracks events changes tracks = rw (tracks.notices, tracks.served) refl
+pub pending-tracks : (terms : Terms) (events : List Event) (changes : HandedIn) → Tracks terms events changes → change.pending changes ≡ unserved_notices terms events
+pending-tracks terms events changes tracks = rw (tracks.notices, tracks.served) refl
 
-module _ (events : List Event) (changes : HandedIn) (tracks : Tracks events changes) (path : List ℕ) where
-  pub pending-is : (seq : Seq) (what : What) → kinds (with_path path (change.pending changes)) ≡ option_to_list (Some (seq, what)) → Contains (pending events) (record { path = path; seq = seq; what = what })
-  pending-is seq what e = rw (← pending-tracks events changes tracks) (only-of_path path (change.pending changes) seq what e)
+module _ (terms : Terms) (events : List Event) (changes : HandedIn) (tracks : Tracks terms events changes) (path : List ℕ) where
+  pub pending-is : (seq : Seq) (what : What) → kinds (with_path path (change.pending changes)) ≡ option_to_list (Some (seq, what)) → Contains (unserved_notices terms events) (record { path = path; seq = seq; what = what })
+  pending-is seq what e = rw (← pending-tracks terms events changes tracks) (only-of_path path (change.pending changes) seq what e)
 
   -- where the path's pending notice is another, or none, no deletion is
   pub pending-other : (seq : Seq) (kind : Option (Seq × What)) → kinds (with_path path (change.pending changes)) ≡ option_to_list kind
-      → ((s : Seq) → kind ≡ Some (s, Deleted) → ⊥) → Contains (pending events) (record { path = path; seq = seq; what = Deleted }) → ⊥
+      → ((s : Seq) → kind ≡ Some (s, Deleted) → ⊥) → Contains (unserved_notices terms events) (record { path = path; seq = seq; what = Deleted }) → ⊥
   pending-other seq kind e other here =
-      by kind refl (subst (λ ks. Contains ks (seq, Deleted)) e (shown-of_path path (change.pending changes) seq Deleted (rw (pending-tracks events changes tracks) here)))
+      by kind refl (subst (λ ks. Contains ks (seq, Deleted)) e (shown-of_path path (change.pending changes) seq Deleted (rw (pending-tracks terms events changes tracks) here)))
     where
       by : (k : Option (Seq × What)) → kind ≡ k → Contains (option_to_list k) (seq, Deleted) → ⊥
       by None is there = none_in_empty (seq, Deleted) there
@@ -91,7 +93,7 @@ filter-has test (y ∷ xs) x here = by (filter-has test xs x) (test y) refl
     by rest false fails = rest (rw fails at here)
 
 -- a deletion that is pending is above what its path was served under
-pub erasing-counts : (events : List Event) (changes : HandedIn) → Tracks events changes → (path : List ℕ) (seq : Seq) → MayErase events path seq → nat_lt (served_number changes.served path) seq.0 ≡ true
-erasing-counts events changes tracks path seq may =
-    let passes = filter-has (change.is_pending (notices events) (numbers_of (completed events))) (notices events) (record { path = path; seq = seq; what = Deleted }) may in
-    rw tracks.served (and_parts (seq.0 == change.latest_number (notices events) path) (nat_lt (served_number (numbers_of (completed events)) path) seq.0) passes).1
+pub erasing-counts : (terms : Terms) (events : List Event) (changes : HandedIn) → Tracks terms events changes → (path : List ℕ) (seq : Seq) → MayErase terms events path seq → nat_lt (served_number changes.served path) seq.0 ≡ true
+erasing-counts terms events changes tracks path seq may =
+    let passes = filter-has (change.is_pending (notices terms events) (served_numbers terms events)) (notices terms events) (record { path = path; seq = seq; what = Deleted }) may in
+    rw tracks.served (and_parts (seq.0 == change.latest_number (notices terms events) path) (nat_lt (served_number (served_numbers terms events) path) seq.0) passes).1

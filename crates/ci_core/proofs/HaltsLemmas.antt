@@ -5,7 +5,7 @@ use Rattle.ci_change.specs.declared.notice.Notice.{Notice}
 use Rattle.ci_change.specs.declared.notice.What.{What}
 use Rattle.ci_journal.specs.declared.event.Event.{Event}
 use Rattle.ci_journal.specs.Bytes.{capped, event_bytes}
-use Rattle.ci_journal.specs.Completions.{is_numbered}
+use Rattle.ci_journal.specs.Folds.{is_numbered}
 use Rattle.ci_core.specs.declared.core_fault.CoreFault.{CoreFault}
 use Rattle.ci_core.specs.declared.core_fault.CoreFault.TheVariants.{TooManyDocuments, JournalFull, OutOfMemory, WriteFault, Ended}
 use Rattle.ci_core.specs.declared.settings.TheConstants.{JOURNAL_MOST}

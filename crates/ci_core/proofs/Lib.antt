@@ -10,6 +10,8 @@ pub mod MarksLemmas
 pub mod NoticesLemmas
 pub mod NumbersLemmas
 pub mod OutLemmas
+pub mod PendingLemmas
+pub mod QueueLemmas
 pub mod RefusalLemmas
 pub mod ServedLemmas
 pub mod ServingLemmas

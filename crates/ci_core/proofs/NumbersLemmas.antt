@@ -7,7 +7,7 @@ use Rattle.std.specs.Option.{IsSome}
 use Rattle.ci_base.specs.declared.numbers.DocNo.{DocNo}
 use Rattle.ci_paths.specs.Numbering as numbering
 use Rattle.ci_paths.specs.Numbering.{IsFullFor, Numbering, number_of}
-use Rattle.ci_journal.specs.Completions.{is_numbered, with_path}
+use Rattle.ci_journal.specs.Folds.{is_numbered, with_path}
 
 abbrev pub paths_of : List (List ℕ × DocNo) → List (List ℕ)
 paths_of numbered = map (λ e. e.0) numbered

@@ -13,13 +13,17 @@ use Rattle.ci_change.specs.Pending.{docs_of, is_free, is_pending}
 use Rattle.ci_keys.proofs.OneForm.{Contains-cons_cases, none_in_empty}
 use Rattle.ci_journal.specs.declared.event.Event.{Event}
 use Rattle.ci_journal.specs.declared.event.Happened.{Happened}
-use Rattle.ci_journal.specs.declared.event.Happened.TheVariants.{Asked, Noted, Put, Erased, Begun, BatchDone, Opened, Answered, Said}
-use Rattle.ci_journal.specs.Completions.{Filings, begun, begun_in, completed, docs_out, file_event, filings, free, numbers_of, out, pending, without_number}
-use Rattle.ci_journal.specs.Folds.{notices, notice_in}
-use Rattle.ci_journal.specs.Step.{May, Run}
-use Rattle.ci_journal.specs.Step.Run.{Empty, Next}
+use Rattle.ci_journal.specs.declared.event.Happened.TheVariants.{Asked, Noted, Put, Erased, Started, StartFailed, DaemonLost, Begun, BatchDone, BatchDied, Returned, Shadowed, MasterBegun, MasterStep, MasterEnded, Opened, Answered, Said}
+use Rattle.ci_journal.specs.Filings.{Filings, batches, docs_out, filings, out, without_number}
+use Rattle.ci_journal.specs.Folds.{notices}
+use Rattle.ci_journal.specs.Pending.{free, is_unfiltered, pending, unserved_notices}
+use Rattle.ci_journal.specs.Served.{served_numbers}
+use Rattle.ci_journal.specs.Step.{May, Run, Chain}
+use Rattle.ci_journal.specs.Step.Chain.{NoEvent, Next}
+use Rattle.ci_journal.specs.Tells.{tells}
 use Rattle.ci_journal.specs.Terms.{Terms}
-use Rattle.ci_journal.proofs.FoldsLemmas.{begun-push, filings-push, notices-push}
+use Rattle.ci_journal.proofs.ChainLemmas.{Chain-run}
+use Rattle.ci_journal.proofs.FoldsLemmas.{batch_of, batches-push, file_where, filings-push, notices-push}
 
 -- each batch has a number below those behind it, and all are at most so many
 abbrev Ascend : ℕ → List Batch → Type 0
@@ -92,50 +96,71 @@ without_last most (b ∷ bs) last ascend above =
 
 -- ---- along a run
 
-out-push : (journal : List Event) (e : Event) → out (journal ++ e ∷ []) ≡ (file_event (filings journal) e.what).out
+out-push : (journal : List Event) (e : Event) → out (journal ++ e ∷ []) ≡ (file_where (filings journal) (tells e.what).filed).out
 out-push journal e = ap (λ (f : Filings). f.out) (filings-push journal e)
 
-ascends : (terms : Terms) (journal : List Event) (by : ℕ) (what : Happened) → May terms journal by what → Ascend (length (begun journal)) (out journal)
-    → Ascend (length (begun journal ++ option_to_list (begun_in what))) (file_event (filings journal) what).out
-ascends terms journal by (Asked id request) may ascend = rw (append-nil (begun journal)) ascend
-ascends terms journal by (Noted notice) may ascend = rw (append-nil (begun journal)) ascend
-ascends terms journal by (Put path seq transcript) may ascend = rw (append-nil (begun journal)) ascend
-ascends terms journal by (Erased path seq) may ascend = rw (append-nil (begun journal)) ascend
+ascends : (terms : Terms) (journal : List Event) (by : ℕ) (what : Happened) → May terms journal by what → Ascend (length (batches journal)) (out journal)
+    → Ascend (length (batches journal ++ batch_of (tells what).filed)) (file_where (filings journal) (tells what).filed).out
+ascends terms journal by (Asked id request) may ascend = rw (append-nil (batches journal)) ascend
+ascends terms journal by (Noted notice) may ascend = rw (append-nil (batches journal)) ascend
+ascends terms journal by (Put path seq transcript) may ascend = rw (append-nil (batches journal)) ascend
+ascends terms journal by (Erased path seq) may ascend = rw (append-nil (batches journal)) ascend
+ascends terms journal by Started may ascend = rw (append-nil (batches journal)) ascend
+ascends terms journal by StartFailed may ascend = rw (append-nil (batches journal)) ascend
+ascends terms journal by DaemonLost may ascend = rw (append-nil (batches journal)) ascend
 ascends terms journal by (Begun batch) may ascend =
-    subst (λ n. Ascend n (out journal ++ batch ∷ [])) (sym (length-append (begun journal) (batch ∷ []))) (Ascend-push (length (begun journal)) (out journal) batch ascend may.next)
-ascends terms journal by (BatchDone number outcomes) may ascend = rw (append-nil (begun journal)) (Ascend-filter (length (begun journal)) (λ (b : Batch). not (b.number == number)) (out journal) ascend)
-ascends terms journal by (Opened id) may ascend = rw (append-nil (begun journal)) ascend
-ascends terms journal by (Answered id at paths) may ascend = rw (append-nil (begun journal)) ascend
-ascends terms journal by (Said id reply) may ascend = rw (append-nil (begun journal)) ascend
+    subst (λ n. Ascend n (out journal ++ batch ∷ [])) (sym (length-append (batches journal) (batch ∷ []))) (Ascend-push (length (batches journal)) (out journal) batch ascend may.next)
+ascends terms journal by (BatchDone number outcomes) may ascend = rw (append-nil (batches journal)) (Ascend-filter (length (batches journal)) (λ (b : Batch). not (b.number == number)) (out journal) ascend)
+ascends terms journal by (BatchDied number charged) may ascend = rw (append-nil (batches journal)) (Ascend-filter (length (batches journal)) (λ (b : Batch). not (b.number == number)) (out journal) ascend)
+ascends terms journal by (Returned number) may ascend = rw (append-nil (batches journal)) (Ascend-filter (length (batches journal)) (λ (b : Batch). not (b.number == number)) (out journal) ascend)
+ascends terms journal by Shadowed may ascend = rw (append-nil (batches journal)) ascend
+ascends terms journal by MasterBegun may ascend = rw (append-nil (batches journal)) ascend
+ascends terms journal by (MasterStep split) may ascend = rw (append-nil (batches journal)) ascend
+ascends terms journal by MasterEnded may ascend = rw (append-nil (batches journal)) ascend
+ascends terms journal by (Opened id) may ascend = rw (append-nil (batches journal)) ascend
+ascends terms journal by (Answered id at paths) may ascend = rw (append-nil (batches journal)) ascend
+ascends terms journal by (Said id reply) may ascend = rw (append-nil (batches journal)) ascend
 
-pub out_ascends : (terms : Terms) (journal : List Event) → Run terms journal → Ascend (length (begun journal)) (out journal)
-out_ascends terms _ Empty = tt
-out_ascends terms _ (Next journal event run may) =
-    rw (begun-push journal event, out-push journal event) (ascends terms journal event.by event.what may (out_ascends terms journal run))
+out-chain : (terms : Terms) (journal : List Event) → Chain terms journal → Ascend (length (batches journal)) (out journal)
+out-chain terms _ NoEvent = tt
+out-chain terms _ (Next journal event chain may) =
+    rw (batches-push journal event, out-push journal event) (ascends terms journal event.by event.what may (out-chain terms journal chain))
+
+pub out_ascends : (terms : Terms) (journal : List Event) → Run terms journal → Ascend (length (batches journal)) (out journal)
+out_ascends terms journal run = out-chain terms journal (Chain-run terms journal run)
 
 -- ---- the batches that were begun
 
-begun_ascend : (terms : Terms) (journal : List Event) (by : ℕ) (what : Happened) → May terms journal by what → Ascend (length (begun journal)) (begun journal)
-    → Ascend (length (begun journal ++ option_to_list (begun_in what))) (begun journal ++ option_to_list (begun_in what))
-begun_ascend terms journal by (Asked id request) may ascend = rw (append-nil (begun journal)) ascend
-begun_ascend terms journal by (Noted notice) may ascend = rw (append-nil (begun journal)) ascend
-begun_ascend terms journal by (Put path seq transcript) may ascend = rw (append-nil (begun journal)) ascend
-begun_ascend terms journal by (Erased path seq) may ascend = rw (append-nil (begun journal)) ascend
-begun_ascend terms journal by (Begun batch) may ascend =
-    subst (λ n. Ascend n (begun journal ++ batch ∷ [])) (sym (length-append (begun journal) (batch ∷ []))) (Ascend-push (length (begun journal)) (begun journal) batch ascend may.next)
-begun_ascend terms journal by (BatchDone number outcomes) may ascend = rw (append-nil (begun journal)) ascend
-begun_ascend terms journal by (Opened id) may ascend = rw (append-nil (begun journal)) ascend
-begun_ascend terms journal by (Answered id at paths) may ascend = rw (append-nil (begun journal)) ascend
-begun_ascend terms journal by (Said id reply) may ascend = rw (append-nil (begun journal)) ascend
+batches_ascend : (terms : Terms) (journal : List Event) (by : ℕ) (what : Happened) → May terms journal by what → Ascend (length (batches journal)) (batches journal)
+    → Ascend (length (batches journal ++ batch_of (tells what).filed)) (batches journal ++ batch_of (tells what).filed)
+batches_ascend terms journal by (Asked id request) may ascend = rw (append-nil (batches journal)) ascend
+batches_ascend terms journal by (Noted notice) may ascend = rw (append-nil (batches journal)) ascend
+batches_ascend terms journal by (Put path seq transcript) may ascend = rw (append-nil (batches journal)) ascend
+batches_ascend terms journal by (Erased path seq) may ascend = rw (append-nil (batches journal)) ascend
+batches_ascend terms journal by Started may ascend = rw (append-nil (batches journal)) ascend
+batches_ascend terms journal by StartFailed may ascend = rw (append-nil (batches journal)) ascend
+batches_ascend terms journal by DaemonLost may ascend = rw (append-nil (batches journal)) ascend
+batches_ascend terms journal by (Begun batch) may ascend =
+    subst (λ n. Ascend n (batches journal ++ batch ∷ [])) (sym (length-append (batches journal) (batch ∷ []))) (Ascend-push (length (batches journal)) (batches journal) batch ascend may.next)
+batches_ascend terms journal by (BatchDone number outcomes) may ascend = rw (append-nil (batches journal)) ascend
+batches_ascend terms journal by (BatchDied number charged) may ascend = rw (append-nil (batches journal)) ascend
+batches_ascend terms journal by (Returned number) may ascend = rw (append-nil (batches journal)) ascend
+batches_ascend terms journal by Shadowed may ascend = rw (append-nil (batches journal)) ascend
+batches_ascend terms journal by MasterBegun may ascend = rw (append-nil (batches journal)) ascend
+batches_ascend terms journal by (MasterStep split) may ascend = rw (append-nil (batches journal)) ascend
+batches_ascend terms journal by MasterEnded may ascend = rw (append-nil (batches journal)) ascend
+batches_ascend terms journal by (Opened id) may ascend = rw (append-nil (batches journal)) ascend
+batches_ascend terms journal by (Answered id at paths) may ascend = rw (append-nil (batches journal)) ascend
+batches_ascend terms journal by (Said id reply) may ascend = rw (append-nil (batches journal)) ascend
 
-begun_ascends : (terms : Terms) (journal : List Event) → Run terms journal → Ascend (length (begun journal)) (begun journal)
-begun_ascends terms _ Empty = tt
-begun_ascends terms _ (Next journal event run may) =
-    rw (begun-push journal event) (begun_ascend terms journal event.by event.what may (begun_ascends terms journal run))
+batches-chain : (terms : Terms) (journal : List Event) → Chain terms journal → Ascend (length (batches journal)) (batches journal)
+batches-chain terms _ NoEvent = tt
+batches-chain terms _ (Next journal event chain may) =
+    rw (batches-push journal event) (batches_ascend terms journal event.by event.what may (batches-chain terms journal chain))
 
 -- a batch that was begun is the only one that was under its number
-pub only_begun : (terms : Terms) (journal : List Event) → Run terms journal → (batch : Batch) → Contains (begun journal) batch → filter (λ (b : Batch). b.number == batch.number) (begun journal) ≡ batch ∷ []
-only_begun terms journal run batch here = only_number (length (begun journal)) (begun journal) batch (begun_ascends terms journal run) here
+pub only_begun : (terms : Terms) (journal : List Event) → Run terms journal → (batch : Batch) → Contains (batches journal) batch → filter (λ (b : Batch). b.number == batch.number) (batches journal) ≡ batch ∷ []
+only_begun terms journal run batch here = only_number (length (batches journal)) (batches journal) batch (batches-chain terms journal (Chain-run terms journal run)) here
 
 -- ---- documents that are out were noted
 
@@ -159,44 +184,64 @@ AllNoted-later notices more bs all =
     (λ b noted. All-weaker (λ (d : List ℕ × Seq). was_noted notices d.0 ≡ true) (λ (d : List ℕ × Seq). was_noted (notices ++ more) d.0 ≡ true) (λ d n. noted_later notices more d.0 n) b.docs noted) bs all
 
 -- the free documents were noted
-free_noted : (journal : List Event) (most : ℕ) → AreNoted (notices journal) (docs_of (take most (free journal)))
-free_noted journal most =
-    All-map (λ (d : List ℕ × Seq). was_noted (notices journal) d.0 ≡ true) (λ (n : Notice). (n.path, n.seq)) (take most (free journal))
-    (All-take (λ (n : Notice). was_noted (notices journal) n.path ≡ true) most (free journal)
-    (All-filter (is_free (out journal)) (λ (n : Notice). was_noted (notices journal) n.path ≡ true) (pending journal)
-    (All-filter (is_pending (notices journal) (numbers_of (completed journal))) (λ (n : Notice). was_noted (notices journal) n.path ≡ true) (notices journal)
-    (All-weaker (Contains (notices journal)) (λ (n : Notice). was_noted (notices journal) n.path ≡ true)
-    (λ n here. list_any_at (λ (m : Notice). bytes_eq m.path n.path) (notices journal) here.0 n here.1 (subst (λ (m : Notice). bytes_eq m.path n.path ≡ true) (sym here.2) ((bytes_eq-Decides n.path n.path).1 refl)))
-    (notices journal) (All-contains_itself (notices journal))))))
+free_noted : (terms : Terms) (journal : List Event) (most : ℕ) → AreNoted (notices terms journal) (docs_of (take most (free terms journal)))
+free_noted terms journal most =
+    let was = λ (n : Notice). was_noted (notices terms journal) n.path ≡ true in
+    All-map (λ (d : List ℕ × Seq). was_noted (notices terms journal) d.0 ≡ true) (λ (n : Notice). (n.path, n.seq)) (take most (free terms journal))
+    (All-take was most (free terms journal)
+    (All-filter (is_free (out journal)) was (pending terms journal)
+    (All-filter (λ (n : Notice). not (is_unfiltered terms journal n)) was (unserved_notices terms journal)
+    (All-filter (is_pending (notices terms journal) (served_numbers terms journal)) was (notices terms journal)
+    (All-weaker (Contains (notices terms journal)) was
+    (λ n here. list_any_at (λ (m : Notice). bytes_eq m.path n.path) (notices terms journal) here.0 n here.1 (subst (λ (m : Notice). bytes_eq m.path n.path ≡ true) (sym here.2) ((bytes_eq-Decides n.path n.path).1 refl)))
+    (notices terms journal) (All-contains_itself (notices terms journal)))))))
 
-outs_noted : (terms : Terms) (journal : List Event) (by : ℕ) (what : Happened) → May terms journal by what → AllNoted (notices journal) (out journal)
-    → AllNoted (notices journal ++ option_to_list (notice_in what)) (file_event (filings journal) what).out
-outs_noted terms journal by (Asked id request) may all = AllNoted-later (notices journal) [] (out journal) all
-outs_noted terms journal by (Noted notice) may all = AllNoted-later (notices journal) (notice ∷ []) (out journal) all
-outs_noted terms journal by (Put path seq transcript) may all = AllNoted-later (notices journal) [] (out journal) all
-outs_noted terms journal by (Erased path seq) may all = AllNoted-later (notices journal) [] (out journal) all
+outs_noted : (terms : Terms) (journal : List Event) (by : ℕ) (what : Happened) → May terms journal by what → AllNoted (notices terms journal) (out journal)
+    → AllNoted (notices terms journal ++ option_to_list (tells what).notice) (file_where (filings journal) (tells what).filed).out
+outs_noted terms journal by (Asked id request) may all = AllNoted-later (notices terms journal) [] (out journal) all
+outs_noted terms journal by (Noted notice) may all = AllNoted-later (notices terms journal) (notice ∷ []) (out journal) all
+outs_noted terms journal by (Put path seq transcript) may all = AllNoted-later (notices terms journal) [] (out journal) all
+outs_noted terms journal by (Erased path seq) may all = AllNoted-later (notices terms journal) [] (out journal) all
+outs_noted terms journal by Started may all = AllNoted-later (notices terms journal) [] (out journal) all
+outs_noted terms journal by StartFailed may all = AllNoted-later (notices terms journal) [] (out journal) all
+outs_noted terms journal by DaemonLost may all = AllNoted-later (notices terms journal) [] (out journal) all
 outs_noted terms journal by (Begun batch) may all =
-    AllNoted-later (notices journal) [] (out journal ++ batch ∷ []) (All-push (λ (b : Batch). AreNoted (notices journal) b.docs) (out journal) batch all (subst (AreNoted (notices journal)) (sym may.first) (free_noted journal may.most)))
+    AllNoted-later (notices terms journal) [] (out journal ++ batch ∷ [])
+    (All-push (λ (b : Batch). AreNoted (notices terms journal) b.docs) (out journal) batch all (subst (AreNoted (notices terms journal)) (sym may.first) (free_noted terms journal may.most)))
 outs_noted terms journal by (BatchDone number outcomes) may all =
-    AllNoted-later (notices journal) [] (without_number (out journal) number) (All-filter (λ (b : Batch). not (b.number == number)) (λ (b : Batch). AreNoted (notices journal) b.docs) (out journal) all)
-outs_noted terms journal by (Opened id) may all = AllNoted-later (notices journal) [] (out journal) all
-outs_noted terms journal by (Answered id at paths) may all = AllNoted-later (notices journal) [] (out journal) all
-outs_noted terms journal by (Said id reply) may all = AllNoted-later (notices journal) [] (out journal) all
+    AllNoted-later (notices terms journal) [] (without_number (out journal) number) (All-filter (λ (b : Batch). not (b.number == number)) (λ (b : Batch). AreNoted (notices terms journal) b.docs) (out journal) all)
+outs_noted terms journal by (BatchDied number charged) may all =
+    AllNoted-later (notices terms journal) [] (without_number (out journal) number) (All-filter (λ (b : Batch). not (b.number == number)) (λ (b : Batch). AreNoted (notices terms journal) b.docs) (out journal) all)
+outs_noted terms journal by (Returned number) may all =
+    AllNoted-later (notices terms journal) [] (without_number (out journal) number) (All-filter (λ (b : Batch). not (b.number == number)) (λ (b : Batch). AreNoted (notices terms journal) b.docs) (out journal) all)
+outs_noted terms journal by Shadowed may all = AllNoted-later (notices terms journal) [] (out journal) all
+outs_noted terms journal by MasterBegun may all = AllNoted-later (notices terms journal) [] (out journal) all
+outs_noted terms journal by (MasterStep split) may all = AllNoted-later (notices terms journal) [] (out journal) all
+outs_noted terms journal by MasterEnded may all = AllNoted-later (notices terms journal) [] (out journal) all
+outs_noted terms journal by (Opened id) may all = AllNoted-later (notices terms journal) [] (out journal) all
+outs_noted terms journal by (Answered id at paths) may all = AllNoted-later (notices terms journal) [] (out journal) all
+outs_noted terms journal by (Said id reply) may all = AllNoted-later (notices terms journal) [] (out journal) all
 
-pub out_noted : (terms : Terms) (journal : List Event) → Run terms journal → AllNoted (notices journal) (out journal)
-out_noted terms _ Empty = λ k d within. absurd (omega (arith, within))
-out_noted terms _ (Next journal event run may) =
-    rw (notices-push journal event, out-push journal event) (outs_noted terms journal event.by event.what may (out_noted terms journal run))
+noted-chain : (terms : Terms) (journal : List Event) → Chain terms journal → AllNoted (notices terms journal) (out journal)
+noted-chain terms _ NoEvent = λ k d within. absurd (omega (arith, within))
+noted-chain terms _ (Next journal event chain may) =
+    rw (notices-push terms journal event, out-push journal event) (outs_noted terms journal event.by event.what may (noted-chain terms journal chain))
+
+pub out_noted : (terms : Terms) (journal : List Event) → Run terms journal → AllNoted (notices terms journal) (out journal)
+out_noted terms journal run = noted-chain terms journal (Chain-run terms journal run)
 
 -- ---- what a batch that is out says
 
+-- its documents are those of its number
+pub docs_out-chain : (terms : Terms) (journal : List Event) → Chain terms journal → (batch : Batch) → Contains (out journal) batch → docs_out (out journal) batch.number ≡ batch.docs
+docs_out-chain terms journal chain batch here =
+    ap (λ bs. flat_map (λ (b : Batch). b.docs) bs) (only_number (length (batches journal)) (out journal) batch (out-chain terms journal chain) here)
+    ∙ append-nil batch.docs
+
 module _ (terms : Terms) (journal : List Event) (run : Run terms journal) (batch : Batch) (here : Contains (out journal) batch) where
-  -- its documents are those of its number
   pub docs_out-is : docs_out (out journal) batch.number ≡ batch.docs
-  docs_out-is =
-      ap (λ bs. flat_map (λ (b : Batch). b.docs) bs) (only_number (length (begun journal)) (out journal) batch (out_ascends terms journal run) here)
-      ∙ append-nil batch.docs
+  docs_out-is = docs_out-chain terms journal (Chain-run terms journal run) batch here
 
   -- and they were noted
-  pub docs_noted : AreNoted (notices journal) batch.docs
-  docs_noted = All-contains (λ (b : Batch). AreNoted (notices journal) b.docs) (out journal) batch (out_noted terms journal run) here
+  pub docs_noted : AreNoted (notices terms journal) batch.docs
+  docs_noted = All-contains (λ (b : Batch). AreNoted (notices terms journal) b.docs) (out journal) batch (out_noted terms journal run) here

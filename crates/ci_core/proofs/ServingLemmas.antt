@@ -2,7 +2,7 @@
 use Rattle.std.proofs.Common.{arith, ◌≡◌, ◌∙◌, ◌&&◌, ℕ, ◌+◌, ◌<◌, Bool, true, false, cond, nat_lt, List, [], ◌∷◌, ◌++◌, All, length, drop, take, map, fold, get_or, Some, refl, ap, sym, subst, append_assoc, add-one, suc}
 use Rattle.std.proofs.Math.Seq.{drop-cons}
 use Rattle.std.proofs.lemmas.List.{take_more}
-use Rattle.std.proofs.lemmas.List.Elements.{All-more, All-weaker}
+use Rattle.std.proofs.lemmas.List.Elements.{All-cons, All-head, All-more, All-tail, All-weaker}
 use Rattle.std.specs.FinMap as map_of_keys
 use Rattle.std.specs.Cmp.Lexicographic.{nat_list_cmp_total}
 use Rattle.std.specs.Ordering.{is_eq}
@@ -10,13 +10,15 @@ use Rattle.ci_base.specs.declared.numbers.Seq.{Seq}
 use Rattle.ci_change.specs.HandedIn.{HandedIn, with_served}
 use Rattle.ci_change.specs.Pending.{served_number}
 use Rattle.ci_keys.specs.Entry.{EntryLists}
-use Rattle.ci_journal.specs.declared.outcome.Outcome.{Outcome}
-use Rattle.ci_journal.specs.declared.outcome.Outcome.TheVariants.{Done}
-use Rattle.ci_journal.specs.Completions.{completion_of, completions_of, numbers_of}
-use Rattle.ci_journal.specs.Served.{Served, path_cmp, serve}
-use Rattle.ci_journal.specs.Terms.{Terms}
+use Rattle.ci_chunk.specs.declared.outcome.Outcome.{Outcome}
+use Rattle.ci_chunk.specs.declared.outcome.Outcome.TheVariants.{Done, Failed, Refused}
+use Rattle.ci_journal.specs.Filings.{filing, fate_of, fates_at_end}
+use Rattle.ci_journal.specs.Served.{numbers_of, serve}
+use Rattle.ci_journal.specs.Tells.{Filing}
+use Rattle.ci_journal.specs.Tells.Ending.{Through}
+use Rattle.ci_journal.specs.Terms.{Served, Terms, path_cmp}
 use Rattle.ci_documents.specs.Documents.{Standings, StandFor, KeepsEntries, Serves, entry_at, has_place}
-use Rattle.ci_core.specs.Serving.{entry_from, serve_entry, serve_entries}
+use Rattle.ci_core.specs.Serving.{AreServed, IsIndexable, entry_from, is_served, serve_entry, serve_entries}
 use Rattle.ci_core.proofs.ServedLemmas.{flipped}
 
 -- one document served
@@ -53,24 +55,39 @@ IsOnTheWay-next served docs entries changes after documents settled doc entry be
 
 -- ---- against the journal
 
-serve_entry-is : (terms : Terms) (served : Served) (doc : List ℕ × Seq) (outcome : Outcome) → serve terms served (completion_of doc outcome) ≡ serve_entry served doc (entry_from terms.noise outcome)
-serve_entry-is terms served doc (Done transcript) = refl
+serve_entry-is : (terms : Terms) (served : Served) (doc : List ℕ × Seq) (outcome : Outcome) → IsIndexable outcome → serve terms served (filing doc (fate_of outcome)) ≡ serve_entry served doc (entry_from terms.noise outcome)
+serve_entry-is terms served doc (Done transcript) done = refl
+serve_entry-is terms served doc (Failed status) done = absurd done
+serve_entry-is terms served doc (Refused status) done = absurd done
 
 -- the outcomes of a batch serve its documents with their entries
-pub served-outcomes : (terms : Terms) (served : Served) (docs : List (List ℕ × Seq)) (outcomes : List Outcome) → fold (serve terms) served (completions_of docs outcomes) ≡ serve_entries served docs (map (entry_from terms.noise) outcomes)
-served-outcomes terms served [] [] = refl
-served-outcomes terms served [] (o ∷ outcomes) = refl
-served-outcomes terms served (d ∷ docs) [] = refl
-served-outcomes terms served (d ∷ docs) (o ∷ outcomes) =
-    ap (λ s. fold (serve terms) s (completions_of docs outcomes)) (serve_entry-is terms served d o)
-    ∙ served-outcomes terms (serve_entry served d (entry_from terms.noise o)) docs outcomes
+pub served-outcomes : (terms : Terms) (served : Served) (docs : List (List ℕ × Seq)) (outcomes : List Outcome) → All IsIndexable outcomes → fold (serve terms) served (fates_at_end docs (Through outcomes)) ≡ serve_entries served docs (map (entry_from terms.noise) outcomes)
+served-outcomes terms served [] [] done = refl
+served-outcomes terms served [] (o ∷ outcomes) done = refl
+served-outcomes terms served (d ∷ docs) [] done = refl
+served-outcomes terms served (d ∷ docs) (o ∷ outcomes) done =
+    ap (λ s. fold (serve terms) s (fates_at_end docs (Through outcomes))) (serve_entry-is terms served d o (All-head IsIndexable o outcomes done))
+    ∙ served-outcomes terms (serve_entry served d (entry_from terms.noise o)) docs outcomes (All-tail IsIndexable o outcomes done)
 
 -- their numbers are those of the documents
-pub numbers-outcomes : (docs : List (List ℕ × Seq)) (outcomes : List Outcome) → length outcomes ≡ length docs → numbers_of (completions_of docs outcomes) ≡ docs
-numbers-outcomes [] [] each = refl
-numbers-outcomes [] (o ∷ outcomes) each = absurd (omega (arith, each))
-numbers-outcomes (d ∷ docs) [] each = absurd (omega (arith, each))
-numbers-outcomes (d ∷ docs) (Done transcript ∷ outcomes) each = ap (λ ds. d ∷ ds) (numbers-outcomes docs outcomes (omega (arith, each)))
+pub numbers-outcomes : (docs : List (List ℕ × Seq)) (outcomes : List Outcome) → All IsIndexable outcomes → length outcomes ≡ length docs → numbers_of (fates_at_end docs (Through outcomes)) ≡ docs
+numbers-outcomes [] [] done each = refl
+numbers-outcomes [] (o ∷ outcomes) done each = absurd (omega (arith, each))
+numbers-outcomes (d ∷ docs) [] done each = absurd (omega (arith, each))
+numbers-outcomes (d ∷ docs) (Done transcript ∷ outcomes) done each = ap (λ ds. d ∷ ds) (numbers-outcomes docs outcomes (All-tail IsIndexable (Done transcript) outcomes done) (omega (arith, each)))
+numbers-outcomes (d ∷ docs) (Failed status ∷ outcomes) done each = absurd (All-head IsIndexable (Failed status) outcomes done)
+numbers-outcomes (d ∷ docs) (Refused status ∷ outcomes) done each = absurd (All-head IsIndexable (Refused status) outcomes done)
+
+-- and each was served
+pub AreServed-outcomes : (docs : List (List ℕ × Seq)) (outcomes : List Outcome) → All IsIndexable outcomes → AreServed (fates_at_end docs (Through outcomes))
+AreServed-outcomes [] [] done = λ k d within. absurd (omega (arith, within))
+AreServed-outcomes [] (o ∷ outcomes) done = λ k d within. absurd (omega (arith, within))
+AreServed-outcomes (d ∷ docs) [] done = λ k d within. absurd (omega (arith, within))
+AreServed-outcomes (d ∷ docs) (Done transcript ∷ outcomes) done =
+    All-cons (λ (f : Filing). is_served f.fate ≡ true) (filing d (fate_of (Done transcript))) (fates_at_end docs (Through outcomes)) refl
+    (AreServed-outcomes docs outcomes (All-tail IsIndexable (Done transcript) outcomes done))
+AreServed-outcomes (d ∷ docs) (Failed status ∷ outcomes) done = absurd (All-head IsIndexable (Failed status) outcomes done)
+AreServed-outcomes (d ∷ docs) (Refused status ∷ outcomes) done = absurd (All-head IsIndexable (Refused status) outcomes done)
 
 -- ---- steps of loops over documents
 

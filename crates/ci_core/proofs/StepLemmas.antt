@@ -1,69 +1,70 @@
 -- What a catalogue keeps, step by step.
-use Rattle.std.proofs.Common.{arith, ◌≡◌, ◌∙◌, ℕ, ◌+◌, ◌≤◌, true, false, List, [], ◌∷◌, ◌++◌, length, drop, nat_lt, Option, Some, None, slice_get, option_to_list, refl, ap, sym, subst, append-nil}
-use Rattle.std.proofs.lemmas.List.{map-append}
-use Rattle.std.specs.Option.{option_map}
+use Rattle.std.proofs.Common.{arith, ◌≡◌, ◌∙◌, ℕ, ◌+◌, true, false, List, [], ◌∷◌, ◌++◌, length, nat_lt, Option, Some, None, option_to_list, refl, ap, sym, subst, append-nil, append_assoc}
+use Rattle.std.proofs.lemmas.List.Elements.{All-push}
 use Rattle.ci_base.specs.declared.numbers.Seq.{Seq}
 use Rattle.ci_change.specs.declared.notice.What.{What}
 use Rattle.ci_change.specs.declared.notice.What.TheVariants.{Changed}
 use Rattle.ci_change.specs.HandedIn.{HandedIn, with_notice, with_served, notice_of}
 use Rattle.ci_change.specs.Pending.{served_number}
+use Rattle.ci_chunk.specs.declared.outcome.Outcome.TheVariants.{Done}
 use Rattle.ci_chunk.specs.declared.piece.Piece.{Piece}
+use Rattle.ci_dialect.specs.declared.restriction.Restriction.{Restriction}
 use Rattle.ci_entry.specs.Entry.{entry_of}
 use Rattle.ci_keys.specs.Entry.{EntryLists}
 use Rattle.ci_journal.specs.declared.event.Happened.TheVariants.{Asked, Put, Erased, Opened, Answered, Said}
-use Rattle.ci_journal.specs.declared.outcome.Outcome.TheVariants.{Done}
 use Rattle.ci_journal.specs.declared.reply.Reply.{Reply}
 use Rattle.ci_journal.specs.declared.request.Request.{Request}
-use Rattle.ci_journal.specs.Completions.{Completion, completed, numbers_of}
-use Rattle.ci_journal.specs.Folds.{word_asked}
-use Rattle.ci_journal.specs.Served.{Served, served_by}
-use Rattle.ci_journal.specs.Step.{MayPut, MayErase, MayAnswer, MaySay}
-use Rattle.ci_journal.specs.Terms.{Terms}
-use Rattle.ci_journal.proofs.FoldsLemmas.{served_by-push}
+use Rattle.ci_journal.specs.declared.event.Event.{Event}
+use Rattle.ci_journal.specs.Filings.{fates}
+use Rattle.ci_journal.specs.Folds.{requests_in}
+use Rattle.ci_journal.specs.Served.{number_of, numbers_of, served_by}
+use Rattle.ci_journal.specs.Step.{MayPut, MayErase, MayAnswer, MaySay, shadow_before}
+use Rattle.ci_journal.specs.Tells.{Filing, event}
+use Rattle.ci_journal.specs.Tells.Fate.{Filtered, Gone}
+use Rattle.ci_journal.specs.Terms.{Beginning, Served, Terms}
+use Rattle.ci_journal.proofs.FoldsLemmas.{numbers_of-push, served_by-push}
 use Rattle.ci_core.specs.declared.waiting.Waiting.{Waiting}
-use Rattle.ci_core.specs.Changes.{Adds, Enters, Stays, event, noted}
+use Rattle.ci_core.specs.Asking.{TellsTree, grown}
+use Rattle.ci_core.specs.Changes.{Adds, Enters, Stays, noted}
 use Rattle.ci_documents.specs.Documents.{Standings, StandFor, KeepsEntries, Serves, Settles}
-use Rattle.ci_core.specs.Kept.{IsHolding, Shelf}
-use Rattle.ci_core.specs.Serving.{IsIndexable}
+use Rattle.ci_core.specs.Kept.{IsHolding, Shelf, StartsEmpty}
+use Rattle.ci_core.specs.Serving.{AreServed, IsIndexable, is_served}
 use Rattle.ci_core.specs.Sheet.{Sheet}
-use Rattle.ci_core.specs.Waiting.{Marks, marked_at, waiting_queries}
+use Rattle.ci_core.specs.Waiting.{IsQueue, Marks, marked_at}
 use Rattle.ci_core.proofs.KeptLemmas.{Follows, IsHolding-adds, IsHolding-follows}
+use Rattle.ci_core.proofs.QueueLemmas.{IsQueue-asked, IsQueue-first, IsQueue-opened, IsQueue-silent}
 use Rattle.ci_core.proofs.ServedLemmas.{StandFor-keeps, StandFor-filtered, StandFor-erased, served_by-numbers}
 
-pub first_shown : (ws : List Waiting) (w : Waiting) → slice_get ws 0 ≡ Some w → slice_get (waiting_queries ws) 0 ≡ Some (w.id, w.word)
-first_shown [] w e = absurd (cc)
-first_shown (v ∷ ws) w e = let p : v ≡ w = cc in ap (λ (x : Waiting). Some (x.id, x.word)) p
+-- one filing more is served too
+AreServed-push : (filed : List Filing) (f : Filing) → AreServed filed → is_served f.fate ≡ true → AreServed (filed ++ f ∷ [])
+AreServed-push filed f all one = All-push (λ (g : Filing). is_served g.fate ≡ true) filed f all one
 
-shown_length : (ws : List Waiting) (w : Waiting) → slice_get ws 0 ≡ Some w → 1 ≤ length (waiting_queries ws)
-shown_length [] w e = absurd (cc)
-shown_length (v ∷ ws) w e = omega arith
-
-rest_shown : (ws : List Waiting) → waiting_queries (drop 1 ws) ≡ drop 1 (waiting_queries ws)
-rest_shown [] = refl
-rest_shown (v ∷ ws) = refl
-
-numbers-push : (cs : List Completion) (c : Completion) → numbers_of (cs ++ c ∷ []) ≡ numbers_of cs ++ (c.path, c.seq) ∷ []
-numbers-push cs c = map-append (λ (d : Completion). (d.path, d.seq)) cs (c ∷ [])
+-- no shadow comes before an event where entries are kept whole
+pub no_shadow : (terms : Terms) (journal : List Event) (by : ℕ) → StartsEmpty terms → shadow_before terms journal by ≡ []
+no_shadow terms journal by starts = rw starts.whole refl
 
 module _ (terms : Terms) (old : Sheet) (shelf : Shelf) (kept : IsHolding terms old shelf) where
   abbrev Kept : Sheet → Shelf → Type 0
   Kept new after = IsHolding terms new after
 
   -- a request was asked
-  pub asked-kept : (ready new : Sheet) (by : ℕ) (request : Request) (word : Option (List ℕ)) (after : List Waiting) (marks : Marks) → by ≡ 0 → Stays old ready → word ≡ word_asked request →
-      waiting_queries after ≡ waiting_queries shelf.waiting ++ option_to_list (option_map (λ w. (shelf.requests + 1, w)) word) → marks.list ≡ shelf.marks.list ++ false ∷ [] →
+  pub asked-kept : (ready new : Sheet) (by : ℕ) (request : Request) (tree : Option Restriction) (after : List Waiting) (marks : Marks) → by ≡ 0 → Stays old ready → TellsTree terms.noise request tree →
+      after ≡ grown shelf.waiting (shelf.requests + 1) tree → marks.list ≡ shelf.marks.list ++ false ∷ [] →
       Adds ready new (event by (Asked (shelf.requests + 1) request)) → Kept new (record shelf { waiting = after; marks = marks; requests = shelf.requests + 1 })
-  asked-kept ready new by request word after marks foreground stays asks waits marked adds =
+  asked-kept ready new by request tree after marks foreground stays asks waits marked adds =
+      let next : shelf.requests + 1 ≡ length (requests_in old.events) + 1 = omega (arith, kept.counts.requests) in
       let after_ask : Shelf = record shelf { waiting = after; marks = marks; requests = shelf.requests + 1 } in
       let follows : Follows terms old (event by (Asked (shelf.requests + 1) request)) shelf after_ask = record {
-        may = record { foreground = foreground; next = omega (arith, kept.counts.requests) };
+        may = record { foreground = foreground; next = next };
+        alone = refl;
         indexable = tt;
+        filed = kept.served;
         requests = omega arith;
         replies = omega arith;
         noted = omega arith;
         begun = omega arith;
-        taken = omega arith;
-        waits = waits ∙ ap (λ w. waiting_queries shelf.waiting ++ option_to_list (option_map (λ (w : List ℕ). (shelf.requests + 1, w)) w)) asks;
+        waits = subst (IsQueue terms (old.events ++ event by (Asked (shelf.requests + 1) request) ∷ [])) (sym waits)
+            (IsQueue-asked terms old.events by (shelf.requests + 1) request shelf.waiting kept.run next tree asks kept.waits);
         marks = marked;
         notices = sym (append-nil _);
         served = kept.tracks.served;
@@ -78,14 +79,15 @@ module _ (terms : Terms) (old : Sheet) (shelf : Shelf) (kept : IsHolding terms o
   noted-kept ready new by path what after foreground stays handed adds =
       let after_note : Shelf = record shelf { changes = after; noted = shelf.noted + 1 } in
       let follows : Follows terms old (noted by path (shelf.noted + 1) what) shelf after_note = record {
-        may = record { foreground = foreground; next = omega (arith, kept.counts.noted) };
+        may = record { foreground = foreground; scope = refl; next = omega (arith, kept.counts.noted, ap (λ (b : Beginning). b.next) kept.starts.beginning) };
+        alone = refl;
         indexable = tt;
+        filed = kept.served;
         requests = omega arith;
         replies = omega arith;
         noted = omega arith;
         begun = omega arith;
-        taken = omega arith;
-        waits = sym (append-nil _);
+        waits = IsQueue-silent terms old.events (noted by path (shelf.noted + 1) what) shelf.waiting refl refl kept.waits;
         marks = refl;
         notices = ap (λ (h : HandedIn). h.notices) handed;
         served = ap (λ (h : HandedIn). h.served) handed ∙ kept.tracks.served;
@@ -94,83 +96,90 @@ module _ (terms : Terms) (old : Sheet) (shelf : Shelf) (kept : IsHolding terms o
       } in
       IsHolding-adds terms old ready new _ shelf after_note kept stays adds follows
 
-  -- one completion more was served
-  serves : (completion : Completion) (served : HandedIn) → served ≡ with_served shelf.changes completion.path completion.seq → served.served ≡ numbers_of (completed old.events ++ completion ∷ [])
-  serves completion served handed =
-      ap (λ (h : HandedIn). h.served) handed ∙ ap (λ ns. ns ++ (completion.path, completion.seq) ∷ []) kept.tracks.served ∙ sym (numbers-push (completed old.events) completion)
+  -- one filing more was served
+  serves : (filing : Filing) (served : HandedIn) → number_of filing ≡ Some (filing.path, filing.seq) → served ≡ with_served shelf.changes filing.path filing.seq
+      → served.served ≡ terms.beginning.numbers ++ numbers_of (fates old.events ++ filing ∷ [])
+  serves filing served counts handed =
+      ap (λ (h : HandedIn). h.served) handed ∙ ap (λ ns. ns ++ (filing.path, filing.seq) ∷ []) kept.tracks.served
+      ∙ append_assoc terms.beginning.numbers (numbers_of (fates old.events)) ((filing.path, filing.seq) ∷ [])
+      ∙ ap (λ ns. terms.beginning.numbers ++ ns) (ap (λ o. numbers_of (fates old.events) ++ option_to_list o) (sym counts) ∙ sym (numbers_of-push (fates old.events) filing))
 
   -- the number that a path was served under
-  pub served_under : (path : List ℕ) → served_number shelf.changes.served path ≡ served_number (served_by terms (completed old.events)).numbers path
-  served_under path = ap (λ ns. served_number ns path) (kept.tracks.served ∙ sym (served_by-numbers terms (completed old.events)))
+  pub served_under : (path : List ℕ) → served_number shelf.changes.served path ≡ served_number (served_by terms (fates old.events)).numbers path
+  served_under path = ap (λ ns. served_number ns path) (kept.tracks.served ∙ sym (served_by-numbers terms (fates old.events)))
 
   -- a transcript was put
   pub put-kept : (ready new : Sheet) (by : ℕ) (path : List ℕ) (seq served : Seq) (transcript : List Piece) (entry : EntryLists) (after : HandedIn) (mid documents : Standings) →
-      MayPut old.events by (record { path = path; seq = seq; what = Changed }) → IsIndexable (Done transcript) → Stays old ready → entry ≡ entry_of terms.noise transcript → served ≡ record { 0 = served_number shelf.changes.served path } →
+      MayPut terms old.events by (record { path = path; seq = seq; what = Changed }) → IsIndexable (Done transcript) → Stays old ready → entry ≡ entry_of terms.noise transcript → served ≡ record { 0 = served_number shelf.changes.served path } →
       after ≡ with_served shelf.changes path seq → KeepsEntries shelf.documents mid → Serves mid documents path (nat_lt served.0 seq.0) entry →
       Adds ready new (event by (Put path seq transcript)) → Kept new (record shelf { documents = documents; changes = after })
   put-kept ready new by path seq served transcript entry after mid documents may indexable stays filled served_is handed keeps serves_entry adds =
-      let completion : Completion = record { path = path; seq = seq; filtered = Some transcript } in
+      let filing : Filing = record { path = path; seq = seq; fate = Filtered transcript } in
       let after_put : Shelf = record shelf { documents = documents; changes = after } in
-      let number : served.0 ≡ served_number (served_by terms (completed old.events)).numbers path = ap (λ (s : Seq). s.0) served_is ∙ served_under path in
+      let number : served.0 ≡ served_number (served_by terms (fates old.events)).numbers path = ap (λ (s : Seq). s.0) served_is ∙ served_under path in
       let follows : Follows terms old (event by (Put path seq transcript)) shelf after_put = record {
         may = may;
+        alone = ap (λ es. es ++ event by (Put path seq transcript) ∷ []) (no_shadow terms old.events by kept.starts);
         indexable = indexable;
+        filed = AreServed-push (fates old.events) filing kept.served refl;
         requests = omega arith;
         replies = omega arith;
         noted = omega arith;
         begun = omega arith;
-        taken = omega arith;
-        waits = sym (append-nil _);
+        waits = IsQueue-silent terms old.events (event by (Put path seq transcript)) shelf.waiting refl refl kept.waits;
         marks = refl;
         notices = ap (λ (h : HandedIn). h.notices) handed ∙ sym (append-nil _);
-        served = serves completion after handed;
+        served = serves filing after refl handed;
         out = ap (λ (h : HandedIn). h.out) handed ∙ kept.tracks.out;
-        stands = subst (λ (s : Served). StandFor s.documents documents) (sym (served_by-push terms (completed old.events) completion))
-            (StandFor-filtered terms (served_by terms (completed old.events)) path seq transcript entry mid documents filled (StandFor-keeps _ _ mid kept.stands keeps)
+        stands = subst (λ (s : Served). StandFor s.documents documents) (sym (served_by-push terms (fates old.events) filing))
+            (StandFor-filtered terms (served_by terms (fates old.events)) path seq transcript entry mid documents filled (StandFor-keeps _ _ mid kept.stands keeps)
             (subst (λ n. Serves mid documents path (nat_lt n seq.0) entry) number serves_entry));
       } in
       IsHolding-adds terms old ready new _ shelf after_put kept stays adds follows
 
   -- a path was erased
   pub erased-kept : (ready new : Sheet) (by : ℕ) (path : List ℕ) (seq : Seq) (after : HandedIn) (documents : Standings) →
-      MayErase old.events path seq → nat_lt (served_number shelf.changes.served path) seq.0 ≡ true → Stays old ready →
+      MayErase terms old.events path seq → nat_lt (served_number shelf.changes.served path) seq.0 ≡ true → Stays old ready →
       after ≡ with_served shelf.changes path seq → Settles shelf.documents documents path None →
       Adds ready new (event by (Erased path seq)) → Kept new (record shelf { documents = documents; changes = after })
   erased-kept ready new by path seq after documents may counts stays handed settles adds =
-      let completion : Completion = record { path = path; seq = seq; filtered = None } in
+      let filing : Filing = record { path = path; seq = seq; fate = Gone } in
       let after_erasing : Shelf = record shelf { documents = documents; changes = after } in
       let follows : Follows terms old (event by (Erased path seq)) shelf after_erasing = record {
         may = may;
+        alone = ap (λ es. es ++ event by (Erased path seq) ∷ []) (no_shadow terms old.events by kept.starts);
         indexable = tt;
+        filed = AreServed-push (fates old.events) filing kept.served refl;
         requests = omega arith;
         replies = omega arith;
         noted = omega arith;
         begun = omega arith;
-        taken = omega arith;
-        waits = sym (append-nil _);
+        waits = IsQueue-silent terms old.events (event by (Erased path seq)) shelf.waiting refl refl kept.waits;
         marks = refl;
         notices = ap (λ (h : HandedIn). h.notices) handed ∙ sym (append-nil _);
-        served = serves completion after handed;
+        served = serves filing after refl handed;
         out = ap (λ (h : HandedIn). h.out) handed ∙ kept.tracks.out;
-        stands = subst (λ (s : Served). StandFor s.documents documents) (sym (served_by-push terms (completed old.events) completion))
-            (StandFor-erased terms (served_by terms (completed old.events)) path seq shelf.documents documents (subst (λ n. nat_lt n seq.0 ≡ true) (served_under path) counts) kept.stands settles);
+        stands = subst (λ (s : Served). StandFor s.documents documents) (sym (served_by-push terms (fates old.events) filing))
+            (StandFor-erased terms (served_by terms (fates old.events)) path seq shelf.documents documents (subst (λ n. nat_lt n seq.0 ≡ true) (served_under path) counts) kept.stands settles);
       } in
       IsHolding-adds terms old ready new _ shelf after_erasing kept stays adds follows
 
   -- the first query that waited was opened
-  pub opened-kept : (ready new : Sheet) (by : ℕ) (first : Waiting) (after : List Waiting) → Stays old ready → slice_get shelf.waiting 0 ≡ Some first → after ≡ drop 1 shelf.waiting →
+  pub opened-kept : (ready new : Sheet) (by : ℕ) (first : Waiting) (after : List Waiting) → Stays old ready → shelf.waiting ≡ first ∷ after →
       Adds ready new (event by (Opened first.id)) → Kept new (record shelf { waiting = after })
-  opened-kept ready new by first after stays front goes adds =
+  opened-kept ready new by first after stays front adds =
       let after_opening : Shelf = record shelf { waiting = after } in
+      let queue : IsQueue terms old.events (first ∷ after) = subst (IsQueue terms old.events) front kept.waits in
       let follows : Follows terms old (event by (Opened first.id)) shelf after_opening = record {
-        may = record { word = first.word; first = ap (λ qs. slice_get qs 0) (sym kept.waits.waits) ∙ first_shown shelf.waiting first front };
+        may = (first.tree, IsQueue-first terms old.events first after queue);
+        alone = refl;
         indexable = tt;
+        filed = kept.served;
         requests = omega arith;
         replies = omega arith;
         noted = omega arith;
         begun = omega arith;
-        taken = shown_length shelf.waiting first front;
-        waits = ap waiting_queries goes ∙ rest_shown shelf.waiting ∙ sym (append-nil _);
+        waits = IsQueue-opened terms old.events by first after queue;
         marks = refl;
         notices = sym (append-nil _);
         served = kept.tracks.served;
@@ -186,13 +195,14 @@ module _ (terms : Terms) (old : Sheet) (shelf : Shelf) (kept : IsHolding terms o
       let after_saying : Shelf = record shelf { marks = marks; replies = shelf.replies + 1 } in
       let follows : Follows terms old (event by (Said id reply)) shelf after_saying = record {
         may = may;
+        alone = refl;
         indexable = tt;
+        filed = kept.served;
         requests = omega arith;
         replies = omega arith;
         noted = omega arith;
         begun = omega arith;
-        taken = omega arith;
-        waits = sym (append-nil _);
+        waits = IsQueue-silent terms old.events (event by (Said id reply)) shelf.waiting refl refl kept.waits;
         marks = marked;
         notices = sym (append-nil _);
         served = kept.tracks.served;
@@ -207,13 +217,14 @@ module _ (terms : Terms) (old : Sheet) (shelf : Shelf) (kept : IsHolding terms o
       let after_answering : Shelf = record shelf { marks = marks; replies = shelf.replies + 1 } in
       let follows : Follows terms old (event by (Answered id at paths)) shelf after_answering = record {
         may = may;
+        alone = refl;
         indexable = tt;
+        filed = kept.served;
         requests = omega arith;
         replies = omega arith;
         noted = omega arith;
         begun = omega arith;
-        taken = omega arith;
-        waits = sym (append-nil _);
+        waits = IsQueue-silent terms old.events (event by (Answered id at paths)) shelf.waiting refl refl kept.waits;
         marks = marked;
         notices = sym (append-nil _);
         served = kept.tracks.served;

@@ -3,18 +3,17 @@ use Rattle.std.specs.Prelude.{◌≡◌, ◌<◌, ◌≤◌, ◌+◌, ⊤, ℕ, 
 use Rattle.ci_change.specs.declared.notice.Notice.{Notice}
 use Rattle.ci_journal.specs.declared.event.Happened.{Happened}
 use Rattle.ci_journal.specs.Bytes.{capped, event_bytes, journal_bytes}
-use Rattle.ci_journal.specs.Completions.{is_numbered, numbered}
-use Rattle.ci_journal.specs.Folds.{notice_in}
+use Rattle.ci_journal.specs.Folds.{is_numbered, numbered_paths}
 use Rattle.ci_journal.specs.Step.{May}
+use Rattle.ci_journal.specs.Tells.{event, tells}
 use Rattle.ci_core.specs.declared.core_fault.CoreFault.{CoreFault}
 use Rattle.ci_core.specs.declared.core_fault.CoreFault.TheVariants.{TooManyDocuments, JournalFull, OutOfMemory, WriteFault, Ended}
 use Rattle.ci_core.specs.declared.refusal.Refusal.{Refusal}
-use Rattle.ci_core.specs.Changes.{event}
 use Rattle.ci_core.specs.Core.{Core}
 
 -- the paths that are numbered are those that were noted
 abbrev pub NumbersNoted : Core → Type 0
-NumbersNoted core = core.numbered ≡ numbered core.sheet.events
+NumbersNoted core = core.numbered ≡ numbered_paths core.terms core.sheet.events
 
 -- want of memory leaves it open, since a path may have been numbered before its notice was refused
 abbrev pub NumbersUnless : Core → CoreFault → Type 0
@@ -36,7 +35,7 @@ MayTell core by what = May core.terms core.sheet.events by what
 pub record Crowds (core : Core) (by : ℕ) (what : Happened) : Type 0 where
   pub may : MayTell core by what
   pub notice : Notice
-  pub notes : notice_in what ≡ Some notice
+  pub notes : (tells what).notice ≡ Some notice
   pub new_path : is_numbered core.numbered notice.path ≡ false
   pub many : core.most ≤ length core.numbered
 
@@ -54,8 +53,7 @@ pub record IsCutOff (core : Core) (by at : ℕ) (what : Happened) : Type 0 where
   pub place : at + 1 ≡ length core.sheet.events
 
 -- the cause of the first refusal holds of the catalogue as it is now: the journal has stayed, or
--- has the one event
--- that was being printed
+-- has the one event that was being printed
 abbrev pub CausedBy : Core → ℕ → ℕ → CoreFault → Option Happened → Type 0
 CausedBy core by at TooManyDocuments None = ⊥
 CausedBy core by at TooManyDocuments (Some what) =

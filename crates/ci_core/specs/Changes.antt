@@ -4,11 +4,11 @@ use Rattle.std.specs.Io.KnownBytes.{Appends, Keeps}
 use Rattle.ci_io.specs.Causes.{Rose}
 use Rattle.ci_io.specs.Putting.{AppendsFront}
 use Rattle.ci_journal.specs.declared.event.Event.{Event}
-use Rattle.ci_journal.specs.declared.event.Happened.{Happened}
 use Rattle.ci_journal.specs.declared.event.Happened.TheVariants.{Noted}
 use Rattle.ci_change.specs.declared.notice.What.{What}
 use Rattle.ci_journal.specs.Bytes.{capped, journal_bytes}
 use Rattle.ci_journal.specs.Printed.{lines_of}
+use Rattle.ci_journal.specs.Tells.{event}
 use Rattle.ci_core.specs.declared.core_fault.CoreFault.{CoreFault}
 use Rattle.ci_core.specs.declared.core_fault.CoreFault.TheVariants.{TooManyDocuments, JournalFull, OutOfMemory, WriteFault, Ended}
 use Rattle.ci_core.specs.Sheet.{Sheet}
@@ -84,10 +84,6 @@ pub record CutsOff (old new : Sheet) (bytes : List ℕ) : Type 0 where
   pub limit : new.limit ≡ old.limit
   pub written : AppendsFront old.written new.written bytes
   pub rose : Rose old.faults new.faults
-
--- what happened, with its author
-abbrev pub event : ℕ → Happened → Event
-event by what = record { by = by; what = what }
 
 -- the event that notes a path under this number
 abbrev pub noted : ℕ → List ℕ → ℕ → What → Event

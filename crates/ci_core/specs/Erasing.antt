@@ -4,7 +4,7 @@ use Rattle.ci_base.specs.declared.numbers.Seq.{Seq}
 use Rattle.ci_journal.specs.declared.event.Happened.TheVariants.{Erased}
 use Rattle.ci_journal.specs.Step.{MayErase}
 use Rattle.ci_core.specs.declared.core_fault.CoreFault.{CoreFault}
-use Rattle.ci_core.specs.Changes.{event}
+use Rattle.ci_journal.specs.Tells.{event}
 use Rattle.ci_core.specs.Core.{Core}
 use Rattle.ci_core.specs.Refusals.{IsOver, IsRefused}
 use Rattle.ci_core.specs.Steps.{Makes, Rests}
@@ -13,9 +13,9 @@ use Rattle.ci_core.specs.Steps.{Makes, Rests}
 -- nothing was done
 abbrev pub Erases : Core → Core → ℕ → List ℕ → Bool → Type 0
 Erases old new by path true =
-    (seq : Seq) × MayErase old.sheet.events path seq × Makes old new (event by (Erased path seq))
+    (seq : Seq) × MayErase old.terms old.sheet.events path seq × Makes old new (event by (Erased path seq))
 Erases old new by path false =
-    ((seq : Seq) → ¬ MayErase old.sheet.events path seq) × Rests old new
+    ((seq : Seq) → ¬ MayErase old.terms old.sheet.events path seq) × Rests old new
 
 -- the erasure under the number of the pending deletion was refused
 abbrev pub RefusesErasing : Core → Core → ℕ → List ℕ → CoreFault → Type 0

@@ -1,10 +1,9 @@
 -- What a session was told and handed at its start, which no step changes, and what of it holds ever
 -- after.
-use Rattle.std.specs.Prelude.{◌≡◌, ◌<◌, ℕ, List, [], ◌∷◌, ◌++◌, Option, Some, None, length, take}
+use Rattle.std.specs.Prelude.{◌≡◌, ℕ, List, Option, Some, None}
 use Rattle.std.specs.Io.KnownBytes.{Appends}
 use Rattle.ci_io.specs.Causes.{Rose}
-use Rattle.ci_journal.specs.declared.event.Event.{Event}
-use Rattle.ci_journal.specs.Printed.{lines_of, printed}
+use Rattle.ci_journal.specs.Printed.{PrintsCut, printed}
 use Rattle.ci_journal.specs.Terms.{Terms}
 use Rattle.ci_core.specs.declared.core_fault.CoreFault.{CoreFault}
 use Rattle.ci_core.specs.declared.core_fault.CoreFault.TheVariants.{TooManyDocuments, JournalFull, OutOfMemory, WriteFault, Ended}
@@ -25,22 +24,16 @@ pub record PrintsAll (fixed : Fixed) (sheet : Sheet) : Type 0 where
   pub written : Appends fixed.written sheet.written (printed sheet.events)
   pub faults : sheet.faults ≡ fixed.faults
 
--- the sink failed while the last event was printed, and bytes at the end of its lines lack
-pub record PrintsCut (fixed : Fixed) (sheet : Sheet) : Type 0 where
-  pub front : List Event
-  pub last : Event
-  pub events : sheet.events ≡ front ++ last ∷ []
-  pub count : ℕ
-  pub short : count < length (lines_of last.what)
-  pub written : Appends fixed.written sheet.written
-      (printed front ++ take count (lines_of last.what))
+-- the sink failed while an event was printed, and bytes at the end of its lines lack
+pub record BreaksOff (fixed : Fixed) (sheet : Sheet) : Type 0 where
+  pub cut : PrintsCut fixed.written sheet.written sheet.events
   pub rose : Rose fixed.faults sheet.faults
 
 abbrev pub PrintsAt : Fixed → Sheet → CoreFault → Type 0
 PrintsAt fixed sheet TooManyDocuments = PrintsAll fixed sheet
 PrintsAt fixed sheet (JournalFull used more) = PrintsAll fixed sheet
 PrintsAt fixed sheet OutOfMemory = PrintsAll fixed sheet
-PrintsAt fixed sheet WriteFault = PrintsCut fixed sheet
+PrintsAt fixed sheet WriteFault = BreaksOff fixed sheet
 PrintsAt fixed sheet Ended = PrintsAll fixed sheet
 
 abbrev pub PrintsAfter : Fixed → Sheet → Option Refusal → Type 0

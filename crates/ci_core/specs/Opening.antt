@@ -1,30 +1,33 @@
 -- What opening a query gives.
-use Rattle.std.specs.Prelude.{◌≡◌, ◌-◌, ◌⊎◌, ℕ, [], length, Option, Some, None, slice_get}
+use Rattle.std.specs.Prelude.{◌≡◌, ◌⊎◌, ℕ, List, length, Option, Some, None}
 use Rattle.std.specs.FinMap.{entries}
+use Rattle.ci_dialect.specs.declared.restriction.Restriction.{Restriction}
+use Rattle.ci_journal.specs.declared.event.Event.{Event}
 use Rattle.ci_journal.specs.declared.event.Happened.TheVariants.{Opened}
-use Rattle.ci_journal.specs.declared.request.Request.{Request}
-use Rattle.ci_journal.specs.Folds.{asked, word_asked, unopened}
+use Rattle.ci_journal.specs.Queries.{IsFirstWaiting, Waits}
 use Rattle.ci_journal.specs.Served.{live_map}
+use Rattle.ci_journal.specs.Tells.{event}
+use Rattle.ci_journal.specs.Terms.{Terms}
 use Rattle.ci_core.specs.declared.core_fault.CoreFault.{CoreFault}
 use Rattle.ci_core.specs.declared.question.Question.{Question}
-use Rattle.ci_core.specs.Changes.{event}
 use Rattle.ci_core.specs.Core.{Core}
 use Rattle.ci_core.specs.Refusals.{IsOver, IsRefused}
 use Rattle.ci_core.specs.Steps.{Makes, Rests}
 
+-- no query waits to be opened
+abbrev pub NoneWaits : Terms → List Event → Type 0
+NoneWaits terms events = (id : ℕ) (tree : Restriction) → Waits terms events id tree → ⊥
+
 -- the first query that waited is open: the question speaks of the map right behind the event
 pub record Opens (old new : Core) (by : ℕ) (question : Question) : Type 0 where
   pub makes : Makes old new (event by (Opened question.id))
-  pub first : slice_get (unopened old.sheet.events) 0 ≡ Some (question.id, question.word)
-  pub request : Request
-  pub asked_as : slice_get (asked new.sheet.events) (question.id - 1) ≡ Some request
-  pub asks : word_asked request ≡ Some question.word
+  pub first : IsFirstWaiting old.terms old.sheet.events question.id question.tree
   pub at : question.at ≡ length new.sheet.events
   pub plain : question.plain ≡ entries (live_map old.terms new.sheet.events)
 
 -- a question where one waited, and otherwise nothing
 abbrev pub OpensFirst : Core → Core → ℕ → Option Question → Type 0
-OpensFirst old new by None = (unopened old.sheet.events ≡ []) × Rests old new
+OpensFirst old new by None = NoneWaits old.terms old.sheet.events × Rests old new
 OpensFirst old new by (Some question) = Opens old new by question
 
 -- opening the first query that waited was refused

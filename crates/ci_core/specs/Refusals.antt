@@ -3,9 +3,9 @@ use Rattle.std.specs.Prelude.{◌≡◌, ◌≤◌, ◌⊎◌, false, Some, None
 use Rattle.ci_change.specs.declared.notice.Notice.{Notice}
 use Rattle.ci_journal.specs.declared.event.Event.{Event}
 use Rattle.ci_journal.specs.Bytes.{event_bytes}
-use Rattle.ci_journal.specs.Completions.{is_numbered}
-use Rattle.ci_journal.specs.Folds.{notice_in}
+use Rattle.ci_journal.specs.Folds.{is_numbered}
 use Rattle.ci_journal.specs.Step.{May}
+use Rattle.ci_journal.specs.Tells.{tells}
 use Rattle.ci_core.specs.declared.core_fault.CoreFault.{CoreFault}
 use Rattle.ci_core.specs.declared.core_fault.CoreFault.TheVariants.{TooManyDocuments, JournalFull, OutOfMemory, WriteFault, Ended}
 use Rattle.ci_core.specs.declared.refusal.Refusal.{Refusal}
@@ -17,13 +17,12 @@ use Rattle.ci_core.specs.Steps.{Told}
 -- the event notes a path that is new, and as many paths are numbered as may be
 pub record IsCrowded (old : Core) (event : Event) : Type 0 where
   pub notice : Notice
-  pub notes : notice_in event.what ≡ Some notice
+  pub notes : (tells event.what).notice ≡ Some notice
   pub new_path : is_numbered old.numbered notice.path ≡ false
   pub many : old.most ≤ length old.numbered
 
 -- what a refusal of the step that adds this event leaves, and its cause; want of memory leaves open
--- which paths are
--- numbered
+-- which paths are numbered
 abbrev pub Stops : Core → Core → Event → CoreFault → Type 0
 Stops old new event TooManyDocuments =
     IsCrowded old event × Stays old.sheet new.sheet × (new.numbered ≡ old.numbered)

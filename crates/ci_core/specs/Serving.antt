@@ -1,39 +1,47 @@
 -- Documents of a batch that are served, one after the other.
-use Rattle.std.specs.Prelude.{⊤, All, ◌≤◌, ◌++◌, ℕ, nat_lt, List, [], ◌∷◌, length, if◌then◌else◌}
+use Rattle.std.specs.Prelude.{⊤, All, ◌≡◌, ◌≤◌, ◌++◌, ℕ, Bool, true, false, nat_lt, List, [], ◌∷◌, length, if◌then◌else◌}
 use Rattle.std.specs.FinMap as map_of_keys
 use Rattle.ci_base.specs.declared.numbers.Seq.{Seq}
 use Rattle.ci_change.specs.Pending.{served_number}
 use Rattle.ci_entry.specs.Entry.{entry_of, text_bytes}
+use Rattle.ci_chunk.specs.declared.outcome.Outcome.{Outcome}
+use Rattle.ci_chunk.specs.declared.outcome.Outcome.TheVariants.{Done}
 use Rattle.ci_keys.specs.Entry.{EntryLists}
 use Rattle.ci_journal.specs.declared.event.Event.{Event}
 use Rattle.ci_journal.specs.declared.event.Happened.{Happened}
-use Rattle.ci_journal.specs.declared.event.Happened.TheVariants.{Asked, Noted, Put, Erased, Begun, BatchDone, Opened, Answered, Said}
-use Rattle.ci_journal.specs.declared.outcome.Outcome.{Outcome}
-use Rattle.ci_journal.specs.declared.outcome.Outcome.TheVariants.{Done}
-use Rattle.ci_journal.specs.Served.{Served}
+use Rattle.ci_journal.specs.declared.event.Happened.TheVariants.{Put, BatchDone}
+use Rattle.ci_journal.specs.Tells.{Fate, Filing}
+use Rattle.ci_journal.specs.Tells.Fate.{Filtered, Gone}
+use Rattle.ci_journal.specs.Terms.{Served}
 
--- the transcript of an outcome has few enough pieces and bytes to be indexed
+-- the document was read to its end, and its transcript has few enough pieces and bytes to be indexed; what failed or was
+-- refused isn't taken yet
 abbrev pub IsIndexable : Outcome → Type 0
 IsIndexable (Done transcript) = (length transcript ≤ 65536) × (text_bytes transcript ≤ 1048576)
+IsIndexable _ = ⊥
 
 -- each transcript of an event can be indexed
 abbrev pub HasIndexable : Happened → Type 0
-HasIndexable (Asked id request) = ⊤
-HasIndexable (Noted notice) = ⊤
 HasIndexable (Put path seq transcript) = IsIndexable (Done transcript)
-HasIndexable (Erased path seq) = ⊤
-HasIndexable (Begun batch) = ⊤
 HasIndexable (BatchDone number outcomes) = All IsIndexable outcomes
-HasIndexable (Opened id) = ⊤
-HasIndexable (Answered id at paths) = ⊤
-HasIndexable (Said id reply) = ⊤
+HasIndexable _ = ⊤
 
 abbrev pub AllIndexable : List Event → Type 0
 AllIndexable events = All (λ e. HasIndexable e.what) events
 
+-- a document was filtered or taken away: no attempt was spent on it
+abbrev pub is_served : Fate → Bool
+is_served (Filtered pieces) = true
+is_served Gone = true
+is_served _ = false
+
+abbrev pub AreServed : List Filing → Type 0
+AreServed filed = All (λ f. is_served f.fate ≡ true) filed
+
 -- the entry that an outcome comes to
 abbrev pub entry_from : List (List ℕ) → Outcome → EntryLists
 entry_from noise (Done transcript) = entry_of noise transcript
+entry_from noise _ = entry_of noise []
 
 -- the path gets the entry, where its number is above the path's served number
 abbrev pub serve_entry : Served → List ℕ × Seq → EntryLists → Served

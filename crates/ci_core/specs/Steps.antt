@@ -1,9 +1,9 @@
 -- What a step that isn't refused does to a catalogue: it adds an event, or nothing.
-use Rattle.std.specs.Prelude.{◌≡◌, ℕ, List, None, fold, option_to_list}
+use Rattle.std.specs.Prelude.{◌≡◌, ℕ, List, None, fold, map, option_to_list}
 use Rattle.ci_journal.specs.declared.event.Event.{Event}
 use Rattle.ci_journal.specs.declared.event.Happened.{Happened}
-use Rattle.ci_journal.specs.Completions.{with_path}
-use Rattle.ci_journal.specs.Folds.{notice_in}
+use Rattle.ci_journal.specs.Folds.{with_path}
+use Rattle.ci_journal.specs.Tells.{tells}
 use Rattle.ci_core.specs.Changes.{Adds, Stays}
 use Rattle.ci_core.specs.Core.{Core}
 
@@ -15,7 +15,7 @@ pub record Told (old new : Core) : Type 0 where
 -- the paths that are numbered behind an event: a notice numbers its path
 abbrev pub with_noted : List (List ℕ) → Happened → List (List ℕ)
 with_noted numbered what =
-    fold (λ so_far n. with_path so_far n.path) numbered (option_to_list (notice_in what))
+    fold with_path numbered (map (λ n. n.path) (option_to_list (tells what).notice))
 
 -- the event was added
 pub record Makes (old new : Core) (event : Event) : Type 0 where

@@ -1,7 +1,7 @@
 ghost use Rattle.std.specs.Prelude.{◌≤◌, All, IfOk, IfErr, OnOk};
 ghost use Rattle.ci_journal.specs.declared.event.Happened.{Happened};
 ghost use Rattle.ci_core.specs.Batches.{Begins, CanFinish, RefusesBeginning};
-ghost use Rattle.ci_core.specs.Changes.{event};
+ghost use Rattle.ci_journal.specs.Tells.{event};
 ghost use Rattle.ci_core.specs.Fixed.{KeepsFixed};
 ghost use Rattle.ci_core.specs.Refusals.{Refuses};
 ghost use Rattle.ci_core.specs.Serving.{IsIndexable};

@@ -1,7 +1,8 @@
 ghost use Rattle.std.specs.Prelude.{◌≡◌, ◌≤◌, All, IfOk, IfErr, OnOk};
 ghost use Rattle.ci_journal.specs.Bytes.{capped, event_bytes};
 ghost use Rattle.ci_core.specs.Batches.{Begins, CanFinish, HaltsBeginning};
-ghost use Rattle.ci_core.specs.Changes.{IsReady, LacksRoom, event};
+ghost use Rattle.ci_journal.specs.Tells.{event};
+ghost use Rattle.ci_core.specs.Changes.{IsReady, LacksRoom};
 ghost use Rattle.ci_core.specs.Refusals.{Halts};
 ghost use Rattle.ci_core.specs.Serving.{IsIndexable};
 ghost use Rattle.ci_core.specs.Steps.{Makes};

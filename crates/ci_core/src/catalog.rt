@@ -3,12 +3,14 @@ ghost use Rattle.std.specs.FinMap.{entries};
 ghost use Rattle.std.specs.Option.{option_copied, option_map};
 ghost use Rattle.ci_change.specs.Pending.{ListsByPath};
 ghost use Rattle.ci_journal.specs.Bytes.{journal_bytes};
-ghost use Rattle.ci_journal.specs.Completions.{pending};
-ghost use Rattle.ci_journal.specs.Folds.{asked, is_replied, replied};
+ghost use Rattle.ci_journal.specs.Folds.{requests_in, is_replied, reply_numbers};
+ghost use Rattle.ci_journal.specs.Pending.{pending};
 ghost use Rattle.ci_journal.specs.Served.{live_map};
 ghost use Rattle.ci_journal.specs.Step.{Run};
 ghost use Rattle.ci_core.specs.Catalog.{IsCaused, NumbersAfter};
+ghost use Rattle.ci_core.specs.Core.{terms_of};
 ghost use Rattle.ci_core.specs.Fixed.{HasFixed};
+ghost use Rattle.ci_core.specs.Kept.{StartsEmpty};
 ghost use Rattle.ci_core.specs.Serving.{AllIndexable};
 
 use crate::{Closed, CoreFault, Holdings, NoCatalog, Refusal, Settings};
@@ -47,7 +49,7 @@ impl<K: Sink + Drop> Catalog<K> {
         ensures fixed { IfOk result (HasFixed (record {
           limit = settings.now.journal;
           most = settings.now.documents;
-          terms = record { noise = settings.now.noise };
+          terms = terms_of settings.now.noise;
           written = K.written sink;
           faults = K.faults sink;
         })) }
@@ -64,7 +66,7 @@ impl<K: Sink + Drop> Catalog<K> {
 
     /// The pending notices, in byte order of their paths.
     pub fn pending(&self) -> Result<Notices, OutOfMemory>
-        ensures { IfOk result (λ list. ListsByPath (pending self.now.sheet.events) list) }
+        ensures { IfOk result (λ list. ListsByPath (pending self.now.terms self.now.sheet.events) list) }
     {
         self.holdings.pending()
     }
@@ -80,7 +82,7 @@ impl<K: Sink + Drop> Catalog<K> {
     /// How many requests have no reply.
     pub fn waiting(&self) -> u64
         ensures { result
-            ≡ length (asked self.now.sheet.events) - length (replied self.now.sheet.events) }
+            ≡ length (requests_in self.now.sheet.events) - length (reply_numbers self.now.sheet.events) }
     {
         self.holdings.waiting()
     }
@@ -111,11 +113,13 @@ impl<K: Sink + Drop> Catalog<K> {
         self.refusal.as_ref()
     }
 
-    /// The journal, which is a run of steps whose transcripts can be indexed. It is within its bound,
-    /// and the numbered paths are those that it notes, unless memory was wanted.
+    /// The journal of a session that found nothing, which is a run of steps whose transcripts can be
+    /// indexed. It is within its bound, and the numbered paths are those that it notes, unless memory
+    /// was wanted.
     pub fn journal(&self) -> &Journal
         ensures events { result.now.list ≡ self.now.sheet.events }
         ensures run { Run self.now.terms result.now.list }
+        ensures starts { StartsEmpty self.now.terms }
         ensures indexable { AllIndexable result.now.list }
         ensures within { journal_bytes result.now.list ≤ self.now.sheet.limit }
         ensures numbered { NumbersAfter self.now self.now.refusal }
@@ -125,7 +129,8 @@ impl<K: Sink + Drop> Catalog<K> {
 
     /// The words that are passed over.
     pub fn noise(&self) -> &NoiseList
-        ensures { result.now ≡ self.now.terms.noise }
+        ensures noise { result.now ≡ self.now.terms.noise }
+        ensures terms { self.now.terms ≡ terms_of result.now }
     {
         self.holdings.noise()
     }

@@ -1,6 +1,8 @@
 ghost use Rattle.std.specs.Prelude.{◌≡◌, ◌≤◌, []};
 ghost use Rattle.ci_journal.specs.Bytes.{journal_bytes};
 ghost use Rattle.ci_journal.specs.Step.{Run};
+ghost use Rattle.ci_core.specs.Core.{terms_of};
+ghost use Rattle.ci_core.specs.Kept.{StartsEmpty};
 ghost use Rattle.ci_core.specs.Serving.{AllIndexable};
 
 use crate::{Book, Replied, Settings, Waiting};
@@ -38,21 +40,21 @@ pub struct Holdings<K: Sink + Drop> {
 
 impl<K: Sink + Drop> Model for Holdings<K> {
     ghost use Rattle.std.specs.Prelude.{◌≡◌, None, map};
-    ghost use Rattle.ci_core.specs.Core.{Core};
+    ghost use Rattle.ci_core.specs.Core.{Core, terms_of};
     ghost use Rattle.ci_core.specs.Kept.{IsHolding, Shelf};
 
     ghost Value = { Core };
 
     ghost view = { λ h. record {
       sheet = h.book;
-      terms = record { noise = h.noise };
+      terms = terms_of h.noise;
       most = h.most;
       numbered = map (λ e. e.0) h.numbers.numbered;
       refusal = None;
     } };
 
     ghost invariant = { λ h. (h.numbers.limit ≡ h.most)
-        × IsHolding (record { noise = h.noise }) h.book (record {
+        × IsHolding (terms_of h.noise) h.book (record {
           documents = h.documents.entries;
           changes = h.changes;
           waiting = h.waiting.items;
@@ -72,7 +74,7 @@ impl<K: Sink + Drop> Holdings<K> {
         ensures limit { result.sheet.limit ≡ settings.now.journal }
         ensures written { result.sheet.written ≡ K.written sink }
         ensures faults { result.sheet.faults ≡ K.faults sink }
-        ensures noise { result.terms.noise ≡ settings.now.noise }
+        ensures terms { result.terms ≡ terms_of settings.now.noise }
         ensures most { result.most ≡ settings.now.documents }
         ensures numbered { result.numbered ≡ [] }
     {
@@ -96,6 +98,7 @@ impl<K: Sink + Drop> Holdings<K> {
     pub fn journal(&self) -> &Journal
         ensures events { result.now.list ≡ self.now.sheet.events }
         ensures run { Run self.now.terms result.now.list }
+        ensures starts { StartsEmpty self.now.terms }
         ensures indexable { AllIndexable result.now.list }
         ensures within { journal_bytes result.now.list ≤ self.now.sheet.limit }
     {
@@ -104,7 +107,8 @@ impl<K: Sink + Drop> Holdings<K> {
 
     /// The words that are passed over.
     pub fn noise(&self) -> &NoiseList
-        ensures { result.now ≡ self.now.terms.noise }
+        ensures noise { result.now ≡ self.now.terms.noise }
+        ensures terms { self.now.terms ≡ terms_of result.now }
     {
         &self.noise
     }

@@ -36,4 +36,4 @@ pub use settings::{DOCUMENTS_LEAST, DOCUMENTS_MOST, JOURNAL_LEAST, JOURNAL_MOST,
 pub use tried::Tried;
 use unbegun::Unbegun;
 use waiting::Waiting;
-pub use waiting::asked_word;
+pub use waiting::asked_tree;

@@ -1,9 +1,9 @@
 ghost use Rattle.std.specs.Prelude.{◌≡◌, ◌≤◌, ◌+◌, ◌&&◌, false, length, nat_le, not, IfOk, IfErr, OnOk, IsErrOf};
 ghost use Rattle.ci_entry.specs.Entry.{text_bytes};
-ghost use Rattle.ci_journal.specs.Completions.{is_numbered};
-ghost use Rattle.ci_journal.specs.Folds.{notices};
+ghost use Rattle.ci_journal.specs.Folds.{is_numbered, next_notice};
 ghost use Rattle.ci_journal.specs.Step.{MayPut, MayErase};
-ghost use Rattle.ci_core.specs.Changes.{event, noted};
+ghost use Rattle.ci_journal.specs.Tells.{event};
+ghost use Rattle.ci_core.specs.Changes.{noted};
 ghost use Rattle.ci_core.specs.Refusals.{Halts};
 ghost use Rattle.ci_core.specs.Steps.{Makes};
 
@@ -20,9 +20,9 @@ impl<K: Sink + Drop> Holdings<K> {
     /// A notice of the path is noted, and gets the next number, from 1.
     pub fn note(&mut self, by: u32, path: &PathText, what: What) -> Result<Seq, CoreFault>
         requires { by ≡ 0 }
-        ensures seq { IfOk result (λ seq. seq.0 ≡ length (notices self.old.sheet.events) + 1) }
+        ensures seq { IfOk result (λ seq. seq.0 ≡ next_notice self.old.terms self.old.sheet.events) }
         ensures ok { IfOk result (λ seq. Makes self.old self.new (noted by path.now seq.0 what)) }
-        ensures refused { let number = length (notices self.old.sheet.events) + 1 in
+        ensures refused { let number = next_notice self.old.terms self.old.sheet.events in
             IfErr result (Halts self.old self.new (noted by path.now number what)) }
 
         // Too many documents are told exactly where the path is new, and no more may come.
@@ -68,7 +68,7 @@ impl<K: Sink + Drop> Holdings<K> {
         seq: Seq,
         transcript: Transcript,
     ) -> Result<(), CoreFault>
-        requires may { MayPut self.old.sheet.events by
+        requires may { MayPut self.old.terms self.old.sheet.events by
             (record { path = path.now; seq = seq; what = What.Changed }) }
         requires pieces { length transcript ≤ 65536 }
         requires bytes { text_bytes transcript ≤ 1048576 }
@@ -98,7 +98,7 @@ impl<K: Sink + Drop> Holdings<K> {
 
     /// The document is taken away under the number of its deletion, which is pending.
     pub fn erase(&mut self, by: u32, path: &PathText, seq: Seq) -> Result<(), CoreFault>
-        requires { MayErase self.old.sheet.events path.now seq }
+        requires { MayErase self.old.terms self.old.sheet.events path.now seq }
         ensures ok { OnOk result
             (Makes self.old self.new (event by (Happened.Erased path.now seq))) }
         ensures refused { IfErr result

@@ -1,7 +1,8 @@
-ghost use Rattle.std.specs.Prelude.{◌≡◌, ◌+◌, ℕ, List, Some, slice_get, IfOk, IfErr, OnOk};
-ghost use Rattle.ci_journal.specs.Folds.{unopened};
+ghost use Rattle.std.specs.Prelude.{ℕ, IfOk, IfErr, OnOk};
+ghost use Rattle.ci_dialect.specs.declared.restriction.Restriction.{Restriction as Tree};
+ghost use Rattle.ci_journal.specs.Queries.{IsFirstWaiting};
 ghost use Rattle.ci_journal.specs.Step.{MayAnswer};
-ghost use Rattle.ci_core.specs.Changes.{event};
+ghost use Rattle.ci_journal.specs.Tells.{event};
 ghost use Rattle.ci_core.specs.Opening.{OpensFirst};
 ghost use Rattle.ci_core.specs.Refusals.{Halts};
 ghost use Rattle.ci_core.specs.Steps.{Makes};
@@ -15,18 +16,18 @@ impl<K: Sink + Drop> Holdings<K> {
     /// Opens the first query that waits, if one does.
     pub fn open_query(&mut self, by: u32) -> Result<Option<Question>, CoreFault>
         ensures ok { IfOk result (OpensFirst self.old self.new by) }
-        ensures refused { IfErr result (λ fault. (id : ℕ) (word : List ℕ)
-            → slice_get (unopened self.old.sheet.events) 0 ≡ Some (id, word)
+        ensures refused { IfErr result (λ fault. (id : ℕ) (tree : Tree)
+            → IsFirstWaiting self.old.terms self.old.sheet.events id tree
             → Halts self.old self.new (event by (Happened.Opened id)) fault) }
     {
         let Some(first) = waiting::first_waiting(&self.waiting) else {
             return Ok(None);
         };
-        // The word is copied here, and the want of memory for it told behind that of the bound.
+        // The tree is copied here, and the want of memory for it told behind that of the bound.
         let id = first.id;
-        let word = first.word.copy(self.alloc);
+        let tree = first.tree.copy(self.alloc);
         self.book.prepare(EVENT_BYTES)?;
-        let word = word?;
+        let tree = tree?;
         let plain = plain_list(self.alloc, &self.documents)?;
         self.waiting.pop_front();
         self.book.add(Event {
@@ -37,7 +38,7 @@ impl<K: Sink + Drop> Holdings<K> {
         Ok(Some(Question {
             id,
             at,
-            word,
+            tree,
             plain,
         }))
     }

@@ -1,7 +1,8 @@
 ghost use Rattle.std.specs.Prelude.{◌≡◌, IfOk};
-ghost use Rattle.ci_documents.specs.Documents.{word_hits};
+ghost use Rattle.ci_journal.specs.Served.{hits_in};
 
-use ci_base::{OutOfMemory, Text};
+use ci_base::OutOfMemory;
+use ci_dialect::Restriction;
 use ci_documents::Plain;
 use ci_journal::Paths;
 use std::alloc::Global;
@@ -13,16 +14,28 @@ pub struct Question {
     pub id: u64,
     /// The journal's length right behind its opening.
     pub at: u64,
-    pub word: Text,
+    pub tree: Restriction,
     /// The documents at that point.
     pub plain: Plain,
 }
 
 impl Question {
-    /// The paths of the documents whose contents have the word, in byte order.
+    /// The paths of the documents that satisfy the query, in byte order.
     pub fn hits(&self, alloc: Global) -> Result<Paths, OutOfMemory>
-        ensures { IfOk result (λ paths. paths ≡ word_hits self.now.word self.now.plain) }
+        ensures { IfOk result (λ paths. paths ≡ hits_in self.now.tree self.now.plain) }
     {
-        self.plain.hits(alloc, &self.word)
+        self.plain.hits(alloc, &self.tree)
+    }
+
+    /// Another question that equals this one; the entries of its documents are shared.
+    pub fn copy(&self, alloc: Global) -> Result<Question, OutOfMemory>
+        ensures { IfOk result (λ question. question ≡ self.now) }
+    {
+        Ok(Question {
+            id: self.id,
+            at: self.at,
+            tree: self.tree.copy(alloc)?,
+            plain: self.plain.copy(alloc)?,
+        })
     }
 }

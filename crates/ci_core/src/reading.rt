@@ -1,13 +1,14 @@
 ghost use Rattle.std.specs.Prelude.{◌≡◌, ◌+◌, ◌-◌, length, map, IfOk, IfNone, IfSome};
 ghost use Rattle.std.specs.FinMap.{entries};
-ghost use Rattle.std.specs.Option.{option_map};
 ghost use Rattle.ci_base.specs.declared.numbers.Seq.{Seq};
 ghost use Rattle.ci_change.specs.Pending.{ListsByPath};
-ghost use Rattle.ci_journal.specs.Completions.{pending};
-ghost use Rattle.ci_journal.specs.Folds.{asked, notices, is_replied, replied, unopened};
+ghost use Rattle.ci_journal.specs.Folds.{requests_in, next_notice, is_replied, reply_numbers};
+ghost use Rattle.ci_journal.specs.Pending.{pending};
+ghost use Rattle.ci_journal.specs.Queries.{IsFirstWaiting};
 ghost use Rattle.ci_journal.specs.Served.{live_map};
 ghost use Rattle.ci_journal.specs.Step.{MayErase};
-ghost use Rattle.std.specs.Prelude.{slice_get};
+ghost use Rattle.ci_dialect.specs.declared.restriction.Restriction.{Restriction as Tree};
+ghost use Rattle.ci_core.specs.Opening.{NoneWaits};
 
 use crate::{Holdings, waiting};
 use ci_base::{OutOfMemory, PathText, Seq};
@@ -19,23 +20,23 @@ use ci_journal::{Notices, Paths};
 impl<K: Sink + Drop> Holdings<K> {
     /// The number of the next request.
     pub fn next_request(&self) -> u64
-        ensures { result ≡ length (asked self.now.sheet.events) + 1 }
+        ensures { result ≡ length (requests_in self.now.sheet.events) + 1 }
     {
         self.requests + 1
     }
 
     /// The number of the next notice.
     pub fn next_notice(&self) -> Seq
-        ensures { result ≡ record { 0 = length (notices self.now.sheet.events) + 1 } }
+        ensures { result ≡ record { 0 = next_notice self.now.terms self.now.sheet.events } }
     {
         Seq(self.noted + 1)
     }
 
     /// The number of the path's deletion, if one is pending.
     pub fn deletion(&self, path: &PathText) -> Option<Seq>
-        ensures some { IfSome result (MayErase self.now.sheet.events path.now) }
+        ensures some { IfSome result (MayErase self.now.terms self.now.sheet.events path.now) }
         ensures none { IfNone result
-            ((seq : Seq) → ¬ MayErase self.now.sheet.events path.now seq) }
+            ((seq : Seq) → ¬ MayErase self.now.terms self.now.sheet.events path.now seq) }
     {
         match self.changes.pending_of(path) {
             Some((seq, What::Deleted)) => Some(seq),
@@ -46,7 +47,9 @@ impl<K: Sink + Drop> Holdings<K> {
 
     /// The number of the query that waits longest, if one waits.
     pub fn first_waiting(&self) -> Option<u64>
-        ensures { result ≡ option_map (λ q. q.0) (slice_get (unopened self.now.sheet.events) 0) }
+        ensures some { IfSome result (λ id. (tree : Tree)
+            × IsFirstWaiting self.now.terms self.now.sheet.events id tree) }
+        ensures none { IfNone result (NoneWaits self.now.terms self.now.sheet.events) }
     {
         match waiting::first_waiting(&self.waiting) {
             Some(first) => Some(first.id),
@@ -56,7 +59,7 @@ impl<K: Sink + Drop> Holdings<K> {
 
     /// The pending notices, in byte order of their paths.
     pub fn pending(&self) -> Result<Notices, OutOfMemory>
-        ensures { IfOk result (λ list. ListsByPath (pending self.now.sheet.events) list) }
+        ensures { IfOk result (λ list. ListsByPath (pending self.now.terms self.now.sheet.events) list) }
     {
         Ok(Notices::from(self.changes.pending()?))
     }
@@ -72,7 +75,7 @@ impl<K: Sink + Drop> Holdings<K> {
     /// How many requests have no reply.
     pub fn waiting(&self) -> u64
         ensures { result
-            ≡ length (asked self.now.sheet.events) - length (replied self.now.sheet.events) }
+            ≡ length (requests_in self.now.sheet.events) - length (reply_numbers self.now.sheet.events) }
     {
         self.requests.saturating_sub(self.replies)
     }

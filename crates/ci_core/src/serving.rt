@@ -2,7 +2,7 @@ ghost use Rattle.std.specs.Prelude.{◌≡◌, ◌++◌, true, nat_lt, length, m
 ghost use Rattle.ci_change.specs.HandedIn.{is_known, with_served};
 ghost use Rattle.ci_change.specs.Pending.{served_number};
 ghost use Rattle.ci_documents.specs.Documents.{KeepsEntries, Serves, StandFor, has_place};
-ghost use Rattle.ci_journal.specs.Served.{Served};
+ghost use Rattle.ci_journal.specs.Terms.{Served};
 ghost use Rattle.ci_core.specs.Serving.{IsIndexable, entry_from, serve_entries};
 
 use ci_base::{OutOfMemory, PathText, Seq};
@@ -39,6 +39,8 @@ fn filtered(alloc: Global, outcome: &Outcome, noise: &NoiseList) -> Result<Share
             let entry = entry_of(alloc, transcript, noise)?;
             SharedEntry::new(alloc, entry)
         }
+        Outcome::Failed(_) => unreachable!(),
+        Outcome::Refused(_) => unreachable!(),
     }
 }
 

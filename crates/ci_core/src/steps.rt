@@ -1,11 +1,10 @@
-ghost use Rattle.std.specs.Prelude.{◌≡◌, ◌≤◌, ◌+◌, ◌++◌, false, None, length, option_to_list, IfOk, IfErr, OnOk, IsErrOf};
-ghost use Rattle.std.specs.Option.{option_map};
+ghost use Rattle.std.specs.Prelude.{◌≡◌, ◌≤◌, ◌+◌, false, None, length, IfOk, IfErr, OnOk, IsErrOf};
 ghost use Rattle.ci_entry.specs.Entry.{text_bytes};
-ghost use Rattle.ci_journal.specs.Completions.{is_numbered};
-ghost use Rattle.ci_journal.specs.Folds.{asked, notices, is_replied, unopened, word_asked};
+ghost use Rattle.ci_journal.specs.Folds.{is_numbered, requests_in, next_notice, is_opened, is_replied};
 ghost use Rattle.ci_journal.specs.declared.event.Happened.{Happened};
 ghost use Rattle.ci_journal.specs.Step.{MayPut, MayAnswer, MaySay};
-ghost use Rattle.ci_core.specs.Changes.{event, noted};
+ghost use Rattle.ci_journal.specs.Tells.{event};
+ghost use Rattle.ci_core.specs.Changes.{noted};
 ghost use Rattle.ci_core.specs.Erasing.{Erases, RefusesErasing};
 ghost use Rattle.ci_core.specs.Fixed.{KeepsFixed};
 ghost use Rattle.ci_core.specs.Opening.{OpensFirst, RefusesOpening};
@@ -23,15 +22,13 @@ impl<K: Sink + Drop> Catalog<K> {
     /// A request is asked, and gets the next number, from 1.
     pub fn ask(&mut self, by: u32, request: Request) -> Result<u64, CoreFault>
         requires { by ≡ 0 }
-        ensures id { IfOk result (λ id. id ≡ length (asked self.old.sheet.events) + 1) }
+        ensures id { IfOk result (λ id. id ≡ length (requests_in self.old.sheet.events) + 1) }
         ensures unreplied { IfOk result (λ id. is_replied self.new.sheet.events id ≡ false) }
-        ensures waits { IfOk result (λ id. unopened self.new.sheet.events
-            ≡ unopened self.old.sheet.events
-            ++ option_to_list (option_map (λ word. (id, word)) (word_asked request))) }
+        ensures unopened { IfOk result (λ id. is_opened self.new.sheet.events id ≡ false) }
         ensures ok { IfOk result (λ id.
             Makes self.old self.new (event by (Happened.Asked id request))) }
         ensures unrefused { OnOk result (IsUnrefused self.old self.new) }
-        ensures refused { let id = length (asked self.old.sheet.events) + 1 in
+        ensures refused { let id = length (requests_in self.old.sheet.events) + 1 in
             IfErr result (Refuses self.old self.new (event by (Happened.Asked id request))) }
         ensures fixed { KeepsFixed self.old self.new }
     {
@@ -44,10 +41,10 @@ impl<K: Sink + Drop> Catalog<K> {
     /// A notice of the path is noted, and gets the next number, from 1.
     pub fn note(&mut self, by: u32, path: &PathText, what: What) -> Result<Seq, CoreFault>
         requires { by ≡ 0 }
-        ensures seq { IfOk result (λ seq. seq.0 ≡ length (notices self.old.sheet.events) + 1) }
+        ensures seq { IfOk result (λ seq. seq.0 ≡ next_notice self.old.terms self.old.sheet.events) }
         ensures ok { IfOk result (λ seq. Makes self.old self.new (noted by path.now seq.0 what)) }
         ensures unrefused { OnOk result (IsUnrefused self.old self.new) }
-        ensures refused { let number = length (notices self.old.sheet.events) + 1 in
+        ensures refused { let number = next_notice self.old.terms self.old.sheet.events in
             IfErr result (Refuses self.old self.new (noted by path.now number what)) }
         ensures fixed { KeepsFixed self.old self.new }
 
@@ -71,7 +68,7 @@ impl<K: Sink + Drop> Catalog<K> {
         seq: Seq,
         transcript: Transcript,
     ) -> Result<(), CoreFault>
-        requires may { MayPut self.old.sheet.events by
+        requires may { MayPut self.old.terms self.old.sheet.events by
             (record { path = path.now; seq = seq; what = What.Changed }) }
         requires pieces { length transcript ≤ 65536 }
         requires bytes { text_bytes transcript ≤ 1048576 }

@@ -12,7 +12,7 @@ use Rattle.std.specs.Ordering.{is_eq, is_lt}
 use Rattle.std.specs.declared.cmp.Ordering.{Ordering}
 use Rattle.std.specs.declared.cmp.Ordering.TheVariants.{Less, Equal, Greater}
 use Rattle.ci_keys.specs.Entry.{EntryLists}
-use Rattle.ci_journal.specs.Served.{path_cmp, Documents}
+use Rattle.ci_journal.specs.Terms.{path_cmp, Documents}
 use Rattle.ci_documents.specs.Documents.{Standings, StandFor, KeepsEntries, Settles, entry_at, entry_in, present}
 
 both : (a b : Bool) → T a → T b → T (a && b)

@@ -1,2 +1,1 @@
 pub mod DocumentsLemmas
-pub mod WordLemmas

@@ -1,12 +1,12 @@
 -- The documents as the catalogue keeps them: a list in byte order of paths, each with its entry or with room for one.
-use Rattle.std.specs.Prelude.{◌≡◌, ◌&&◌, ℕ, Bool, true, List, Option, Some, None, cond, is_some, filter, filter_map, map}
+use Rattle.std.specs.Prelude.{◌≡◌, ◌&&◌, ℕ, Bool, true, List, Option, Some, None, cond, is_some, filter_map}
 use Rattle.std.specs.BTreeMap.{is_at}
 use Rattle.std.specs.FinMap.{get}
 use Rattle.std.specs.Map.{lookup}
 use Rattle.std.specs.Option.{option_map}
 use Rattle.std.specs.Ordering.{is_eq}
 use Rattle.ci_keys.specs.Entry.{EntryLists}
-use Rattle.ci_journal.specs.Served.{path_cmp, Documents, has_word}
+use Rattle.ci_journal.specs.Terms.{path_cmp, Documents}
 
 -- paths with what stands for them
 abbrev pub Standings : Type 0
@@ -52,7 +52,3 @@ present standings = filter_map present_at standings
 -- the standings are those of the map
 abbrev pub StandFor : Documents → Standings → Type 0
 StandFor documents standings = (path : List ℕ) → get documents path ≡ entry_at standings path
-
--- the paths of the documents that have the word
-abbrev pub word_hits : List ℕ → List (List ℕ × EntryLists) → List (List ℕ)
-word_hits word documents = map (λ d. d.0) (filter (λ d. has_word word d.1) documents)

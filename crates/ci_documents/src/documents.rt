@@ -1,7 +1,7 @@
 ghost use Rattle.std.specs.Prelude.{◌≡◌, true, nat_lt, map, OnOk, IfOk, Some, None};
 ghost use Rattle.std.specs.List.Sorted.{IsStrictlySortedBy};
 ghost use Rattle.std.specs.Map.{keys_of};
-ghost use Rattle.ci_journal.specs.Served.{path_cmp};
+ghost use Rattle.ci_journal.specs.Terms.{path_cmp};
 ghost use Rattle.ci_documents.specs.Documents.{KeepsEntries, Serves, Settles, has_place, present};
 
 use crate::{Plain, SharedEntry, Standing};

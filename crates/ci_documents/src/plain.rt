@@ -1,16 +1,13 @@
 ghost use Rattle.std.specs.Prelude.{◌≡◌, ◌++◌, [], ◌∷◌, IfOk, OnOk, OnErr};
-ghost use Rattle.ci_documents.specs.Documents.{word_hits};
-ghost use Rattle.ci_journal.specs.Served.{has_word};
+ghost use Rattle.ci_journal.specs.Served.{hits_in};
 
 use crate::SharedEntry;
-use ci_base::{OutOfMemory, PathText, PropNo, Text};
+use ci_base::{OutOfMemory, PathText};
+use ci_dialect::Restriction;
 use ci_journal::Paths;
-use ci_keys::{Entry, Key};
+use ci_restrict::satisfies;
 use std::alloc::Global;
 use std::marker::Model;
-
-/// The property of a document's contents.
-const CONTENTS: PropNo = PropNo(1);
 
 /// A plain list of documents and their entries, in byte order of paths.
 #[derive(Drop)]
@@ -46,38 +43,27 @@ impl Plain {
         Ok(())
     }
 
-    /// The paths of the documents whose contents have the word.
-    pub fn hits(&self, alloc: Global, word: &Text) -> Result<Paths, OutOfMemory>
-        ensures { IfOk result (λ paths. paths ≡ word_hits word.now self.now) }
+    /// The paths of the documents that satisfy the restriction.
+    pub fn hits(&self, alloc: Global, tree: &Restriction) -> Result<Paths, OutOfMemory>
+        ensures { IfOk result (λ paths. paths ≡ hits_in tree.now self.now) }
     {
-        let key = content_key(alloc, word)?;
         let mut hits = Paths::new(alloc);
         for (path, entry) in self.documents.iter() {
-            if has_content(entry.entry(), &key) {
+            if satisfies(alloc, tree, path, entry.entry())? {
                 hits.add(path.copy(alloc)?)?;
             }
         }
         Ok(hits)
     }
-}
 
-// The key of the word in the contents of a document.
-fn content_key(alloc: Global, word: &Text) -> Result<Key, OutOfMemory>
-    ensures property { IfOk result (λ key. key.property.0 ≡ 1) }
-    ensures word { IfOk result (λ key. key.word ≡ word.now) }
-{
-    Ok(Key {
-        property: CONTENTS,
-        word: word.copy(alloc)?,
-    })
-}
-
-// Whether the entry has the word of a key of contents.
-fn has_content(entry: &Entry, key: &Key) -> bool
-    requires { key.now.property.0 ≡ 1 }
-    ensures { result ≡ has_word key.now.word entry.now }
-{
-    // The order of the words, which makes the look-up right, is told with them alone.
-    let _words = entry.words();
-    !entry.places(key).is_empty()
+    /// Another list of the same documents, whose entries are shared.
+    pub fn copy(&self, alloc: Global) -> Result<Plain, OutOfMemory>
+        ensures { IfOk result (λ plain. plain ≡ self.now) }
+    {
+        let mut copied = Plain::new(alloc);
+        for (path, entry) in self.documents.iter() {
+            copied.add(path.copy(alloc)?, entry.share()?)?;
+        }
+        Ok(copied)
+    }
 }

@@ -41,11 +41,17 @@ fn plain(alloc: Global, path: &str, text: &str) -> Result<String, Fail> {
         return Err("a short text".into());
     }
     let path = PathText::read(alloc, path.as_bytes()).ok().ok_or("a path")?;
+    let copy = Transcript::plain(alloc, &path, text)?.copy(alloc)?;
     let mut told = String::new(alloc);
-    for piece in Transcript::plain(alloc, &path, text)?.copy(alloc)?.items() {
-        tell(&mut told, piece)?;
-    }
+    tell_all(&mut told, &copy)?;
     Ok(told)
+}
+
+fn tell_all(told: &mut String, transcript: &Transcript) -> Result<(), Fail> {
+    for piece in transcript.items() {
+        tell(told, piece)?;
+    }
+    Ok(())
 }
 
 fn tell(told: &mut String, piece: &Piece) -> Result<(), Fail> {

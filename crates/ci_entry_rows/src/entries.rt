@@ -1,6 +1,6 @@
 //! Words at their places, and values.
 
-ghost use Rattle.std.specs.Prelude.{◌≡◌, ◌+◌, IfOk, OnOk, length};
+ghost use Rattle.std.specs.Prelude.{◌≡◌, ◌≤◌, ◌+◌, IfOk, length};
 ghost use Rattle.ci_entry.specs.Entry.{text_bytes};
 
 use crate::table::{Table, unmet};
@@ -25,39 +25,65 @@ fn chunk(id: u32, break_type: Break, property: u16) -> StatChunk {
     }
 }
 
-// Adds a text that has this break before it.
-fn add_text(
-    alloc: Global,
-    list: &mut Transcript,
+// A list goes through these calls as a value, so that at most one of them holds it where something
+// is refused.
+
+// With a text more, which has this break before it.
+fn with_text(
+    list: Transcript,
     break_type: Break,
     property: u16,
-    text: &str,
-) -> Result<(), Fail>
-    ensures count { OnOk result (length list.new ≡ length list.old + 1) }
-    ensures bytes { OnOk result (text_bytes list.new ≡ text_bytes list.old + length text.now) }
+    text: Text,
+) -> Result<Transcript, Fail>
+    ensures count { IfOk result (λ t. length t ≡ length list + 1) }
+    ensures bytes { IfOk result (λ t. text_bytes t ≡ text_bytes list + length text) }
 {
+    let mut list = list;
     list.add(Piece::Words {
         chunk: chunk(1, break_type, property),
-        text: Text::of(alloc, text)?,
+        text,
     })?;
-    Ok(())
+    Ok(list)
 }
 
-// Adds a value.
-fn add_value(alloc: Global, list: &mut Transcript, property: u16, value: Value) -> Result<(), Fail>
-    ensures count { OnOk result (length list.new ≡ length list.old + 1) }
-    ensures bytes { OnOk result (text_bytes list.new ≡ text_bytes list.old) }
+// With a value more.
+fn with_value(list: Transcript, property: u16, value: Value) -> Result<Transcript, Fail>
+    ensures count { IfOk result (λ t. length t ≡ length list + 1) }
+    ensures bytes { IfOk result (λ t. text_bytes t ≡ text_bytes list) }
 {
+    let mut list = list;
     list.add(Piece::Held {
         chunk: chunk(1, Break::Eop, property),
         value: Some(value),
     })?;
-    Ok(())
+    Ok(list)
+}
+
+// A text of at most a thousand bytes.
+fn text(alloc: Global, given: &str) -> Result<Text, Fail>
+    ensures { IfOk result (λ t. length t ≤ 1000) }
+{
+    if given.len() > 1000 {
+        return Err("a short text".into());
+    }
+    Ok(Text::of(alloc, given)?)
+}
+
+fn value(alloc: Global, given: &str) -> Result<Value, Fail> {
+    Ok(Value::Str(Text::of(alloc, given)?))
 }
 
 // The words of an entry with their places, and its values.
 fn shown(alloc: Global, entry: &Entry) -> Result<String, Fail> {
     let mut told = String::new(alloc);
+    show_words(&mut told, entry)?;
+    for (property, value) in entry.values() {
+        show_value(&mut told, property.0, value)?;
+    }
+    Ok(told)
+}
+
+fn show_words(told: &mut String, entry: &Entry) -> Result<(), Fail> {
     for (key, places) in entry.words() {
         write!(told, "{}:{}", key.property.0, key.word.as_str())?;
         for place in places.items() {
@@ -65,10 +91,7 @@ fn shown(alloc: Global, entry: &Entry) -> Result<String, Fail> {
         }
         told.push('|')?;
     }
-    for (property, value) in entry.values() {
-        show_value(&mut told, property.0, value)?;
-    }
-    Ok(told)
+    Ok(())
 }
 
 fn show_value(told: &mut String, property: u16, value: &Value) -> Result<(), Fail> {
@@ -81,16 +104,17 @@ fn show_value(told: &mut String, property: u16, value: &Value) -> Result<(), Fai
 
 // The entry of two texts with this break between them.
 fn broken(alloc: Global, break_type: Break, first: &str, second: &str) -> Result<String, Fail> {
-    if first.len() > 1000 || second.len() > 1000 {
-        return Err("short texts".into());
-    }
-    let mut read = Transcript::new(alloc);
-    add_text(alloc, &mut read, Break::Eop, 1, first)?;
-    add_text(alloc, &mut read, break_type, 1, second)?;
-    shown(
-        alloc,
-        &entry_of(alloc, &read, &NoiseList::standard(alloc)?)?,
-    )
+    let read = with_text(Transcript::new(alloc), Break::Eop, 1, text(alloc, first)?)?;
+    let read = with_text(read, break_type, 1, text(alloc, second)?)?;
+    entry_shown(alloc, &read)
+}
+
+fn entry_shown(alloc: Global, read: &Transcript) -> Result<String, Fail>
+    requires pieces { length read.now ≤ 65536 }
+    requires bytes { text_bytes read.now ≤ 1048576 }
+{
+    let noise = NoiseList::standard(alloc)?;
+    shown(alloc, &entry_of(alloc, read, &noise)?)
 }
 
 fn break_named(name: &str) -> Break {
@@ -130,16 +154,17 @@ Eow The fox and the fox of; fox => 1:fox 1 4 6|";
 
 // The entry of two texts of a property around one of another, and of two more behind them.
 fn parted(alloc: Global) -> Result<String, Fail> {
-    let mut read = Transcript::new(alloc);
-    add_text(alloc, &mut read, Break::NoBreak, 1, "fi")?;
-    add_text(alloc, &mut read, Break::Eos, 5, "Red Book")?;
-    add_text(alloc, &mut read, Break::NoBreak, 1, "re")?;
-    add_text(alloc, &mut read, Break::NoBreak, 1, "fox runs")?;
-    add_text(alloc, &mut read, Break::Eos, 1, "away")?;
-    shown(
-        alloc,
-        &entry_of(alloc, &read, &NoiseList::standard(alloc)?)?,
-    )
+    let read = with_text(
+        Transcript::new(alloc),
+        Break::NoBreak,
+        1,
+        text(alloc, "fi")?,
+    )?;
+    let read = with_text(read, Break::Eos, 5, text(alloc, "Red Book")?)?;
+    let read = with_text(read, Break::NoBreak, 1, text(alloc, "re")?)?;
+    let read = with_text(read, Break::NoBreak, 1, text(alloc, "fox runs")?)?;
+    let read = with_text(read, Break::Eos, 1, text(alloc, "away")?)?;
+    entry_shown(alloc, &read)
 }
 
 #[test]
@@ -154,26 +179,26 @@ fn valued(alloc: Global) -> Result<Transcript, Fail>
     ensures count { IfOk result (λ t. length t ≡ 6) }
     ensures bytes { IfOk result (λ t. text_bytes t ≡ 0) }
 {
-    let mut read = Transcript::new(alloc);
-    add_value(alloc, &mut read, 5, Value::Int(7))?;
-    add_value(alloc, &mut read, 5, Value::Str(Text::of(alloc, "red")?))?;
-    add_value(alloc, &mut read, 5, Value::Str(Text::of(alloc, "blue")?))?;
-    add_value(alloc, &mut read, 3, Value::Int(12))?;
-    add_value(alloc, &mut read, 1, Value::Str(Text::of(alloc, "no")?))?;
-    add_value(alloc, &mut read, 10, Value::Int(1))?;
-    Ok(read)
+    let read = with_value(Transcript::new(alloc), 5, Value::Int(7))?;
+    let read = with_value(read, 5, value(alloc, "red")?)?;
+    let read = with_value(read, 5, value(alloc, "blue")?)?;
+    let read = with_value(read, 3, Value::Int(12))?;
+    let read = with_value(read, 1, value(alloc, "no")?)?;
+    with_value(read, 10, Value::Int(1))
 }
 
 fn valued_entry(alloc: Global) -> Result<String, Fail> {
-    shown(
-        alloc,
-        &entry_of(alloc, &valued(alloc)?, &NoiseList::standard(alloc)?)?,
-    )
+    entry_shown(alloc, &valued(alloc)?)
+}
+
+fn filtering(alloc: Global) -> Result<Filtering, Fail> {
+    let noise = NoiseList::standard(alloc)?;
+    Ok(Filtering::of(alloc, valued(alloc)?, &noise)?)
 }
 
 // How many pieces a filtering keeps, and the entry of its copy.
 fn filtered(alloc: Global) -> Result<String, Fail> {
-    let filtering = Filtering::of(alloc, valued(alloc)?, &NoiseList::standard(alloc)?)?;
+    let filtering = filtering(alloc)?;
     let entry = shown(alloc, &filtering.copy(alloc)?.entry)?;
     let pieces = filtering.transcript.items().len();
     Ok(format!(in alloc; "{pieces} {}", entry.as_str())?)
@@ -186,19 +211,27 @@ fn the_first_value_of_the_right_kind_is_kept(rt: HostRuntime) -> Result<(), Fail
     Ok(())
 }
 
-// The entry of a plain text, and which places a key has there.
-fn plain(alloc: Global, property: u16, word: &str) -> Result<String, Fail> {
+fn plain_entry(alloc: Global) -> Result<Entry, Fail> {
     let path = PathText::read(alloc, b"/d/a.txt").ok().ok_or("a path")?;
     let read = Transcript::plain(alloc, &path, "a red fox, a red dog")?;
-    let entry = entry_of(alloc, &read, &NoiseList::standard(alloc)?)?;
-    let key = Key {
-        property: PropNo(property),
-        word: Text::of(alloc, word)?,
-    };
-    let mut told = shown(alloc, &entry)?;
-    for place in entry.places(&key) {
+    let noise = NoiseList::standard(alloc)?;
+    Ok(entry_of(alloc, &read, &noise)?)
+}
+
+fn tell_places(told: &mut String, entry: &Entry, key: &Key) -> Result<(), Fail> {
+    for place in entry.places(key) {
         write!(told, " {}", place.0)?;
     }
+    Ok(())
+}
+
+// The entry of a plain text, and which places a key has there.
+fn plain(alloc: Global, property: u16, word: &str) -> Result<String, Fail> {
+    let property = PropNo(property);
+    let word = Text::of(alloc, word)?;
+    let entry = plain_entry(alloc)?;
+    let mut told = shown(alloc, &entry)?;
+    tell_places(&mut told, &entry, &Key { property, word })?;
     Ok(told)
 }
 

@@ -11,14 +11,32 @@ use std::test::Fail;
 fn read(alloc: Global, bytes: &[u8], cut: usize, frame: &Frame) -> Result<String, Fail> {
     let (front, rest) = bytes.split_at(cut.min(bytes.len()));
     let mut told = String::new(alloc);
-    let mut frames = Frames::new(alloc)?;
-    frames.feed(front)?;
-    told.push(sign(frames.next(), frame))?;
-    frames.feed(rest)?;
-    let mut frames = frames.copy(alloc)?;
-    told.push(sign(frames.next(), frame))?;
-    told.push(sign(frames.next(), frame))?;
+    tell_frames(alloc, &mut told, front, rest, frame)?;
     Ok(told)
+}
+
+fn tell_frames(
+    alloc: Global,
+    told: &mut String,
+    front: &[u8],
+    rest: &[u8],
+    frame: &Frame,
+) -> Result<(), Fail> {
+    let mut frames = fed(Frames::new(alloc)?, front)?;
+    tell_next(told, &mut frames, frame)?;
+    let mut frames = fed(frames, rest)?.copy(alloc)?;
+    tell_next(told, &mut frames, frame)?;
+    tell_next(told, &mut frames, frame)
+}
+
+fn fed(frames: Frames, bytes: &[u8]) -> Result<Frames, Fail> {
+    let mut frames = frames;
+    frames.feed(bytes)?;
+    Ok(frames)
+}
+
+fn tell_next(told: &mut String, frames: &mut Frames, frame: &Frame) -> Result<(), Fail> {
+    Ok(told.push(sign(frames.next(), frame))?)
 }
 
 fn sign(found: Result<Option<Frame>, FrameFault>, wanted: &Frame) -> char {

@@ -1,49 +1,65 @@
--- What one more event adds to what a journal tells.
-use Rattle.std.proofs.Common.{arith, ◌≡◌, ◌∙◌, ℕ, ◌+◌, ◌-◌, ◌||◌, Bool, true, false, List, [], ◌∷◌, ◌++◌, length, Option, Some, None, filter, filter_map, bytes_eq, slice_get, option_to_list, zero, suc, refl, ap, append-nil}
-use Rattle.std.proofs.lemmas.List.{length_push}
+-- What one more event adds to the folds of a journal.
+use Rattle.std.proofs.Common.{arith, ◌≡◌, ◌∙◌, ℕ, ◌+◌, ◌-◌, ◌==◌, ◌||◌, Bool, true, false, List, [], ◌∷◌, ◌++◌, length, map, Option, Some, None, filter, filter_map, bytes_eq, slice_get, option_to_list, zero, suc, refl, ap, sym, append-nil, append_assoc}
+use Rattle.std.specs.Prelude.{fold}
+use Rattle.std.specs.List.{list_any}
+use Rattle.std.proofs.lemmas.List.{length_push, map-append}
 use Rattle.std.proofs.lemmas.List.Elements.{filter_map-append, filter-append}
 use Rattle.std.proofs.lemmas.List.Sums.{fold-append, sum_by-append}
 use Rattle.std.proofs.lemmas.List.Folds.{list_any-append}
 use Rattle.std.proofs.lemmas.Grind.{flat_map-append}
 use Rattle.std.proofs.lemmas.Slice.Eq.{bytes_eq-Decides}
+use Rattle.ci_base.specs.declared.numbers.Seq.{Seq}
+use Rattle.ci_change.specs.declared.batch.Batch.{Batch}
+use Rattle.ci_change.specs.declared.notice.Notice.{Notice}
 use Rattle.ci_journal.specs.declared.event.Event.{Event}
 use Rattle.ci_journal.specs.declared.event.Happened.TheVariants.{Noted}
-use Rattle.ci_change.specs.declared.notice.Notice.{Notice}
 use Rattle.ci_journal.specs.Bytes.{event_bytes, journal_bytes}
-use Rattle.ci_journal.specs.Folds.{request_in, asked, notice_in, notices, last_of, latest, query_in, queries, opened_in, opened, replied_in, replied, replies_to, is_replied}
+use Rattle.ci_journal.specs.Filings.{Filings, nothing_filed, file, filings, batches, batch_in}
+use Rattle.ci_journal.specs.Folds.{requests_in, new_notices, notices, latest, openings, is_opened, reply_numbers, is_replied, with_path, numbered_paths}
 use Rattle.ci_journal.specs.Printed.{lines_of, printed}
-use Rattle.ci_journal.specs.Completions.{Completion, Filings, nothing_filed, file_event, filings, begun, begun_in}
-use Rattle.ci_journal.specs.Served.{nothing_served, serve, served_by}
-use Rattle.ci_journal.specs.Terms.{Terms}
+use Rattle.ci_journal.specs.Served.{number_of, numbers_of, serve, served_by}
+use Rattle.ci_journal.specs.Tells.{Tells, Filed, Filing, tells, tellings, event, last_of}
+use Rattle.ci_journal.specs.Terms.{Terms, found_served}
+use Rattle.ci_journal.proofs.TellsLemmas.{filter_map-push, tellings-push, tellings-fold}
 
-filter_map_one : {X Y : Type 0} (f : X → Option Y) (x : X) → filter_map f (x ∷ []) ≡ option_to_list (f x)
-filter_map_one {X} {Y} f x = by (f x) refl
-  where
-    by : (o : Option Y) → f x ≡ o → filter_map f (x ∷ []) ≡ option_to_list (f x)
-    by None e = rw e
-    by (Some y) e = rw e
+pub requests_in-push : (journal : List Event) (e : Event) → requests_in (journal ++ e ∷ []) ≡ requests_in journal ++ option_to_list (tells e.what).request
+requests_in-push journal e = tellings-push (λ (t : Tells). t.request) journal e
 
-filter_map-push : {X Y : Type 0} (f : X → Option Y) (xs : List X) (x : X) → filter_map f (xs ++ x ∷ []) ≡ filter_map f xs ++ option_to_list (f x)
-filter_map-push f xs x = filter_map-append f xs (x ∷ []) ∙ ap (λ ys. filter_map f xs ++ ys) (filter_map_one f x)
+pub new_notices-push : (journal : List Event) (e : Event) → new_notices (journal ++ e ∷ []) ≡ new_notices journal ++ option_to_list (tells e.what).notice
+new_notices-push journal e = tellings-push (λ (t : Tells). t.notice) journal e
 
-pub asked-push : (journal : List Event) (e : Event) → asked (journal ++ e ∷ []) ≡ asked journal ++ option_to_list (request_in e.what)
-asked-push journal e = filter_map-push (λ (e : Event). request_in e.what) journal e
+pub notices-push : (terms : Terms) (journal : List Event) (e : Event) → notices terms (journal ++ e ∷ []) ≡ notices terms journal ++ option_to_list (tells e.what).notice
+notices-push terms journal e =
+    ap (λ ns. terms.beginning.notices ++ ns) (new_notices-push journal e) ∙ sym (append_assoc terms.beginning.notices (new_notices journal) (option_to_list (tells e.what).notice))
 
-pub notices-push : (journal : List Event) (e : Event) → notices (journal ++ e ∷ []) ≡ notices journal ++ option_to_list (notice_in e.what)
-notices-push journal e = filter_map-push (λ (e : Event). notice_in e.what) journal e
+pub openings-push : (journal : List Event) (e : Event) → openings (journal ++ e ∷ []) ≡ openings journal ++ option_to_list (tells e.what).opening
+openings-push journal e = tellings-push (λ (t : Tells). t.opening) journal e
 
-pub queries-push : (journal : List Event) (e : Event) → queries (journal ++ e ∷ []) ≡ queries journal ++ option_to_list (query_in e.what)
-queries-push journal e = filter_map-push (λ (e : Event). query_in e.what) journal e
+pub reply_numbers-push : (journal : List Event) (e : Event) → reply_numbers (journal ++ e ∷ []) ≡ reply_numbers journal ++ option_to_list (tells e.what).reply
+reply_numbers-push journal e = tellings-push (λ (t : Tells). t.reply) journal e
 
-pub opened-push : (journal : List Event) (e : Event) → opened (journal ++ e ∷ []) ≡ opened journal ++ option_to_list (opened_in e.what)
-opened-push journal e = filter_map-push (λ (e : Event). opened_in e.what) journal e
+-- the number is that of the event, if it has one
+abbrev pub is_number : ℕ → Option ℕ → Bool
+is_number id None = false
+is_number id (Some number) = number == id
 
-pub is_replied-push : (journal : List Event) (e : Event) (id : ℕ) → is_replied (journal ++ e ∷ []) id ≡ (is_replied journal id || replies_to id e.what)
-is_replied-push journal e id = list_any-append (λ (e : Event). replies_to id e.what) journal (e ∷ []) ∙ ap (λ b. is_replied journal id || b) (or_false (replies_to id e.what))
+any-number : (id : ℕ) (o : Option ℕ) → list_any (λ r. r == id) (option_to_list o) ≡ is_number id o
+any-number id None = refl
+any-number id (Some number) = or_false (number == id)
   where
     or_false : (b : Bool) → (b || false) ≡ b
     or_false true = refl
     or_false false = refl
+
+pub is_replied-push : (journal : List Event) (e : Event) (id : ℕ) → is_replied (journal ++ e ∷ []) id ≡ (is_replied journal id || is_number id (tells e.what).reply)
+is_replied-push journal e id =
+    ap (λ rs. list_any (λ r. r == id) rs) (reply_numbers-push journal e) ∙ list_any-append (λ r. r == id) (reply_numbers journal) (option_to_list (tells e.what).reply)
+    ∙ ap (λ b. is_replied journal id || b) (any-number id (tells e.what).reply)
+
+pub is_opened-push : (journal : List Event) (e : Event) (id : ℕ) → is_opened (journal ++ e ∷ []) id ≡ (is_opened journal id || is_number id (tells e.what).opening)
+is_opened-push journal e id =
+    ap (λ os. list_any (λ o. o == id) os) (openings-push journal e) ∙ list_any-append (λ o. o == id) (openings journal) (option_to_list (tells e.what).opening)
+    ∙ ap (λ b. is_opened journal id || b) (any-number id (tells e.what).opening)
 
 pub printed-push : (journal : List Event) (e : Event) → printed (journal ++ e ∷ []) ≡ printed journal ++ lines_of e.what
 printed-push journal e = flat_map-append (λ (e : Event). lines_of e.what) journal (e ∷ []) ∙ ap (λ xs. printed journal ++ xs) (append-nil (lines_of e.what))
@@ -51,17 +67,37 @@ printed-push journal e = flat_map-append (λ (e : Event). lines_of e.what) journ
 pub journal_bytes-push : (journal : List Event) (e : Event) → journal_bytes (journal ++ e ∷ []) ≡ journal_bytes journal + event_bytes e.what
 journal_bytes-push journal e = omega (arith, sum_by-append (λ (e : Event). event_bytes e.what) journal (e ∷ []))
 
-pub replied-push : (journal : List Event) (e : Event) → replied (journal ++ e ∷ []) ≡ replied journal ++ option_to_list (replied_in e.what)
-replied-push journal e = filter_map-push (λ (e : Event). replied_in e.what) journal e
+-- a batch that the event begins
+abbrev pub batch_of : Option Filed → List Batch
+batch_of None = []
+batch_of (Some filed) = option_to_list (batch_in filed)
 
-pub begun-push : (journal : List Event) (e : Event) → begun (journal ++ e ∷ []) ≡ begun journal ++ option_to_list (begun_in e.what)
-begun-push journal e = filter_map-push (λ (e : Event). begun_in e.what) journal e
+pub batches-push : (journal : List Event) (e : Event) → batches (journal ++ e ∷ []) ≡ batches journal ++ batch_of (tells e.what).filed
+batches-push journal e =
+    ap (filter_map batch_in) (tellings-push (λ (t : Tells). t.filed) journal e) ∙ filter_map-append batch_in (tellings (λ (t : Tells). t.filed) journal) (option_to_list (tells e.what).filed)
+    ∙ ap (λ bs. batches journal ++ bs) (one (tells e.what).filed)
+  where
+    one : (o : Option Filed) → filter_map batch_in (option_to_list o) ≡ batch_of o
+    one None = refl
+    one (Some filed) = filter_map-push batch_in [] filed
 
-pub filings-push : (journal : List Event) (e : Event) → filings (journal ++ e ∷ []) ≡ file_event (filings journal) e.what
-filings-push journal e = fold-append (λ (filed : Filings) (e : Event). file_event filed e.what) nothing_filed journal (e ∷ [])
+-- what the event files
+abbrev pub file_where : Filings → Option Filed → Filings
+file_where so_far None = so_far
+file_where so_far (Some filed) = file so_far filed
 
-pub served_by-push : (terms : Terms) (completions : List Completion) (c : Completion) → served_by terms (completions ++ c ∷ []) ≡ serve terms (served_by terms completions) c
-served_by-push terms completions c = fold-append (serve terms) nothing_served completions (c ∷ [])
+pub filings-push : (journal : List Event) (e : Event) → filings (journal ++ e ∷ []) ≡ file_where (filings journal) (tells e.what).filed
+filings-push journal e = tellings-fold (λ (t : Tells). t.filed) file nothing_filed journal e ∙ one (tells e.what).filed
+  where
+    one : (o : Option Filed) → fold file (filings journal) (option_to_list o) ≡ file_where (filings journal) o
+    one None = refl
+    one (Some filed) = refl
+
+pub served_by-push : (terms : Terms) (filed : List Filing) (f : Filing) → served_by terms (filed ++ f ∷ []) ≡ serve terms (served_by terms filed) f
+served_by-push terms filed f = fold-append (serve terms) (found_served terms.beginning) filed (f ∷ [])
+
+pub numbers_of-push : (filed : List Filing) (f : Filing) → numbers_of (filed ++ f ∷ []) ≡ numbers_of filed ++ option_to_list (number_of f)
+numbers_of-push filed f = filter_map-push number_of filed f
 
 pub slice_get-push : {X : Type 0} (xs : List X) (x : X) → slice_get (xs ++ x ∷ []) (length xs) ≡ Some x
 slice_get-push [] x = refl
@@ -72,16 +108,26 @@ slice_get-append [] ys k x e = absurd (cc)
 slice_get-append (y ∷ xs) ys zero x e = e
 slice_get-append (y ∷ xs) ys (suc k) x e = slice_get-append xs ys k x e
 
-last_of-push : {X : Type 0} (xs : List X) (x : X) → last_of (xs ++ x ∷ []) ≡ Some x
+pub last_of-push : {X : Type 0} (xs : List X) (x : X) → last_of (xs ++ x ∷ []) ≡ Some x
 last_of-push xs x =
     let last : length (xs ++ x ∷ []) - 1 ≡ length xs = omega (arith, length_push xs x) in
     rw last (slice_get-push xs x)
 
 -- the notice that was just noted is its path's latest
-pub latest-noted : (journal : List Event) (by : ℕ) (notice : Notice) → latest (journal ++ record { by = by; what = Noted notice } ∷ []) notice.path ≡ Some notice
-latest-noted journal by notice =
+pub latest-noted : (terms : Terms) (journal : List Event) (by : ℕ) (notice : Notice) → latest terms (journal ++ event by (Noted notice) ∷ []) notice.path ≡ Some notice
+latest-noted terms journal by notice =
     let p = λ (n : Notice). bytes_eq n.path notice.path in
     let same : bytes_eq notice.path notice.path ≡ true = (bytes_eq-Decides notice.path notice.path).1 refl in
-    ap (λ ns. last_of (filter p ns)) (notices-push journal _)
-    ∙ ap last_of (filter-append p (notices journal) (notice ∷ []))
-    ∙ rw same (last_of-push (filter p (notices journal)) notice)
+    ap (λ ns. last_of (filter p ns)) (notices-push terms journal (event by (Noted notice)))
+    ∙ ap last_of (filter-append p (notices terms journal) (notice ∷ []))
+    ∙ rw same (last_of-push (filter p (notices terms journal)) notice)
+
+-- a notice numbers its path
+pub numbered_paths-push : (terms : Terms) (journal : List Event) (e : Event) → numbered_paths terms (journal ++ e ∷ []) ≡ fold with_path (numbered_paths terms journal) (map (λ n. n.path) (option_to_list (tells e.what).notice))
+numbered_paths-push terms journal e =
+    let found = map (λ (s : List ℕ × Seq). s.0) terms.beginning.numbers in
+    let more = option_to_list (tells e.what).notice in
+    ap (λ ns. fold with_path [] (found ++ map (λ (n : Notice). n.path) ns)) (notices-push terms journal e)
+    ∙ ap (λ ps. fold with_path [] (found ++ ps)) (map-append (λ (n : Notice). n.path) (notices terms journal) more)
+    ∙ ap (fold with_path []) (sym (append_assoc found (map (λ (n : Notice). n.path) (notices terms journal)) (map (λ (n : Notice). n.path) more)))
+    ∙ fold-append with_path [] (found ++ map (λ (n : Notice). n.path) (notices terms journal)) (map (λ (n : Notice). n.path) more)

@@ -1,3 +1,6 @@
+pub mod ChainLemmas
 pub mod FoldsLemmas
+pub mod LawLemmas
 pub mod RequestLemmas
 pub mod RunLemmas
+pub mod TellsLemmas

@@ -3,13 +3,13 @@ use Rattle.std.specs.Prelude.{ℕ, ◌+◌, ◌-◌, ◌^◌, min, List, Option,
 use Rattle.ci_base.specs.declared.numbers.Seq.{Seq}
 use Rattle.ci_base.specs.declared.value.Value.{Value}
 use Rattle.ci_base.specs.declared.value.Value.TheVariants.{Int, Str}
+use Rattle.ci_chunk.specs.declared.outcome.Outcome.{Outcome}
+use Rattle.ci_chunk.specs.declared.outcome.Outcome.TheVariants.{Done}
 use Rattle.ci_chunk.specs.declared.piece.Piece.{Piece}
 use Rattle.ci_chunk.specs.declared.piece.Piece.TheVariants.{Words, Held}
 use Rattle.ci_journal.specs.declared.event.Event.{Event}
 use Rattle.ci_journal.specs.declared.event.Happened.{Happened}
-use Rattle.ci_journal.specs.declared.event.Happened.TheVariants.{Asked, Noted, Put, Erased, Begun, BatchDone, Opened, Answered, Said}
-use Rattle.ci_journal.specs.declared.outcome.Outcome.{Outcome}
-use Rattle.ci_journal.specs.declared.outcome.Outcome.TheVariants.{Done}
+use Rattle.ci_journal.specs.declared.event.Happened.TheVariants.{Asked, Noted, Put, Erased, Started, StartFailed, DaemonLost, Begun, BatchDone, BatchDied, Returned, Shadowed, MasterBegun, MasterStep, MasterEnded, Opened, Answered, Said}
 use Rattle.ci_journal.specs.declared.request.Request.{Request}
 use Rattle.ci_journal.specs.declared.request.Request.TheVariants as request
 use Rattle.ci_journal.specs.Printed.{reply_lines}
@@ -38,21 +38,19 @@ transcript_bytes pieces = sum_by piece_bytes pieces
 -- an outcome counts 8 bytes beside its transcript
 abbrev pub outcome_bytes : Outcome → ℕ
 outcome_bytes (Done transcript) = transcript_bytes transcript + 8
+outcome_bytes _ = 8
 
 -- a document of a batch counts 8 bytes beside its path
 abbrev pub doc_bytes : List ℕ × Seq → ℕ
 doc_bytes doc = text_bytes doc.0 + 8
 
+-- a request counts its path and its text
 abbrev pub request_bytes : Request → ℕ
 request_bytes (request.Changed path) = text_bytes path
 request_bytes (request.Deleted path) = text_bytes path
 request_bytes (request.Put path text) = text_bytes path + text_bytes text
 request_bytes (request.Query text) = text_bytes text
-request_bytes request.Pending = 0
-request_bytes request.Wait = 0
-request_bytes request.Quit = 0
-request_bytes request.Bad = 0
-request_bytes request.Long = 0
+request_bytes _ = 0
 
 -- what stands beside the 64 bytes
 abbrev pub held_bytes : Happened → ℕ
@@ -60,8 +58,17 @@ held_bytes (Asked id asked) = request_bytes asked
 held_bytes (Noted notice) = text_bytes notice.path
 held_bytes (Put path seq transcript) = text_bytes path + transcript_bytes transcript
 held_bytes (Erased path seq) = text_bytes path
+held_bytes Started = 0
+held_bytes StartFailed = 0
+held_bytes DaemonLost = 0
 held_bytes (Begun batch) = sum_by doc_bytes batch.docs
 held_bytes (BatchDone number outcomes) = sum_by outcome_bytes outcomes
+held_bytes (BatchDied number charged) = 0
+held_bytes (Returned number) = 0
+held_bytes Shadowed = 0
+held_bytes MasterBegun = 0
+held_bytes (MasterStep split) = text_bytes split.word
+held_bytes MasterEnded = 0
 held_bytes (Opened id) = 0
 held_bytes (Answered id at paths) = texts_bytes paths
 held_bytes (Said id reply) = length (reply_lines id reply)

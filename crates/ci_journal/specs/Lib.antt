@@ -1,9 +1,15 @@
 pub mod Bytes
-pub mod Completions
+pub mod Daemon
 pub mod Events
+pub mod Filings
 pub mod Folds
+pub mod Law
+pub mod Pending
 pub mod Printed
+pub mod Queries
 pub mod Requests
 pub mod Served
+pub mod Shape
 pub mod Step
+pub mod Tells
 pub mod Terms

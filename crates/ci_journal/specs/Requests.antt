@@ -1,14 +1,13 @@
 -- The request of a line: a command word, alone or with one space and its argument.
-use Rattle.std.specs.Prelude.{◌≡◌, ◌==◌, ◌&&◌, ◌≤◌, ℕ, Bool, nat_lt, List, [], ◌∷◌, ⊤, length, codes, bytes_eq, if◌then◌else◌}
-use Rattle.std.specs.List.{position_or_len, before_first, after_first}
+use Rattle.std.specs.Prelude.{◌==◌, ◌&&◌, ◌≤◌, ◌+◌, ◌*◌, ◌-◌, ℕ, Bool, true, false, nat_le, nat_lt, List, ⊤, fold, length, codes, bytes_eq, if◌then◌else◌}
+use Rattle.std.specs.List.{list_all, position_or_len, before_first, after_first}
 use Rattle.std.specs.Str.{is_utf8}
 use Rattle.ci_base.specs.Path.{has_path_form}
-use Rattle.ci_words.specs.Words.{words}
 use Rattle.ci_io.specs.declared.line.Line.{Line}
 use Rattle.ci_io.specs.declared.line.Line.TheVariants as line
-use Rattle.ci_io.specs.declared.line.TheConstants.{LINE_BYTES}
+use Rattle.ci_io.specs.Limits.{line_bytes}
 use Rattle.ci_journal.specs.declared.request.Request.{Request}
-use Rattle.ci_journal.specs.declared.request.Request.TheVariants.{Changed, Deleted, Put, Query, Pending, Wait, Quit, Bad, Long}
+use Rattle.ci_journal.specs.declared.request.Request.TheVariants.{Changed, Deleted, Put, Query, Filter, Shadow, Master, Step, Scan, Pending, Unfiltered, Status, Load, Wait, Quit, Bad, Long}
 
 abbrev pub is_space : ℕ → Bool
 is_space byte = byte == 32
@@ -25,10 +24,6 @@ changed_request path = if has_path_form path then Changed path else Bad
 abbrev pub deleted_request : List ℕ → Request
 deleted_request path = if has_path_form path then Deleted path else Bad
 
--- `query TEXT`: the text has exactly one word
-abbrev pub query_request : List ℕ → Request
-query_request text = if length (words text) == 1 then Query text else Bad
-
 -- `put P TEXT`: a path without a space, one space, and any text, which may be empty
 abbrev pub put_request : List ℕ → Request
 put_request argument =
@@ -36,20 +31,52 @@ put_request argument =
     then Put (before_first is_space argument) (after_first is_space argument)
     else Bad
 
--- a command word and its argument
+abbrev pub is_digit : ℕ → Bool
+is_digit byte = nat_le 48 byte && nat_le byte 57
+
+-- 1 to 5 decimal digits; zeros may lead
+abbrev pub is_short_number : List ℕ → Bool
+is_short_number text = nat_le 1 (length text) && nat_le (length text) 5 && list_all is_digit text
+
+abbrev pub number_in : List ℕ → ℕ
+number_in digits = fold (λ so_far digit. 10 * so_far + (digit - 48)) 0 digits
+
+-- a seed of at most 65,535, and 1 to 65,536 documents
+abbrev pub is_load : ℕ → ℕ → Bool
+is_load seed count = nat_le seed 65535 && nat_le 1 count && nat_le count 65536
+
+abbrev pub load_of : List ℕ → List ℕ → Request
+load_of seed count =
+    if is_short_number seed && is_short_number count && is_load (number_in seed) (number_in count)
+    then Load (number_in seed) (number_in count) else Bad
+
+-- `load SEED N`
+abbrev pub load_request : List ℕ → Request
+load_request argument =
+    if has_space argument then load_of (before_first is_space argument) (after_first is_space argument) else Bad
+
+-- a command word and its argument; a query may have any text
 abbrev pub argument_request : List ℕ → List ℕ → Request
 argument_request word argument =
     if bytes_eq word (codes "changed") then changed_request argument
     else (if bytes_eq word (codes "deleted") then deleted_request argument
     else (if bytes_eq word (codes "put") then put_request argument
-    else (if bytes_eq word (codes "query") then query_request argument else Bad)))
+    else (if bytes_eq word (codes "query") then Query argument
+    else (if bytes_eq word (codes "load") then load_request argument else Bad))))
 
 -- a command word alone
 abbrev pub word_request : List ℕ → Request
 word_request word =
-    if bytes_eq word (codes "pending") then Pending
+    if bytes_eq word (codes "filter") then Filter
+    else (if bytes_eq word (codes "shadow") then Shadow
+    else (if bytes_eq word (codes "master") then Master
+    else (if bytes_eq word (codes "step") then Step
+    else (if bytes_eq word (codes "scan") then Scan
+    else (if bytes_eq word (codes "pending") then Pending
+    else (if bytes_eq word (codes "unfiltered") then Unfiltered
+    else (if bytes_eq word (codes "status") then Status
     else (if bytes_eq word (codes "wait") then Wait
-    else (if bytes_eq word (codes "quit") then Quit else Bad))
+    else (if bytes_eq word (codes "quit") then Quit else Bad)))))))))
 
 -- a line of text; every line that isn't known is bad
 abbrev pub text_request : List ℕ → Request
@@ -67,20 +94,14 @@ request_of (line.Text text) = bytes_request text
 request_of line.Long = Long
 request_of line.End = Bad
 
--- the line's text has no more bytes than a line may have
-abbrev pub IsShort : Line → Type 0
-IsShort (line.Text text) = length text ≤ LINE_BYTES
-IsShort line.Long = ⊤
-IsShort line.End = ⊤
-
--- a request that a line makes: the text of a put is no longer than a line, and a query asks for a word
+-- a request that a line makes: its text and its numbers are within their bounds
 abbrev pub IsAskable : Request → Type 0
-IsAskable (Changed path) = ⊤
-IsAskable (Deleted path) = ⊤
-IsAskable (Put path text) = length text ≤ LINE_BYTES
-IsAskable (Query text) = (word : List ℕ) × (words text ≡ word ∷ [])
-IsAskable Pending = ⊤
-IsAskable Wait = ⊤
-IsAskable Quit = ⊤
-IsAskable Bad = ⊤
-IsAskable Long = ⊤
+IsAskable (Put path text) = length text ≤ line_bytes
+IsAskable (Query text) = length text ≤ line_bytes
+IsAskable (Load seed count) = (seed ≤ 65535) × (1 ≤ count) × (count ≤ 65536)
+IsAskable _ = ⊤
+
+-- the request ends the session
+abbrev pub is_quit : Request → Bool
+is_quit Quit = true
+is_quit _ = false

@@ -1,10 +1,9 @@
-ghost use Rattle.std.specs.Prelude.{◌≡◌, ◌+◌, ◌^◌, ◌<◌, length, flat_map, decimal, sum_by};
+ghost use Rattle.std.specs.Prelude.{◌≡◌, ◌+◌, ◌^◌, sum_by};
 ghost use Rattle.ci_journal.specs.Bytes.{capped, event_bytes, request_bytes, text_bytes, texts_bytes, value_bytes, piece_bytes, transcript_bytes, outcome_bytes, doc_bytes};
-ghost use Rattle.ci_journal.specs.Printed.{notice_line, pending_lines, reply_lines, word_line};
 
-use crate::{Event, Happened, Outcome, Reply, Request};
+use crate::reply_bytes::reply_len;
+use crate::{Event, Happened, Outcome, Request};
 use ci_base::{PathText, Seq, Value};
-use ci_change::Notice;
 use ci_chunk::{Piece, Transcript};
 
 /// What every event counts, beside what it holds.
@@ -40,8 +39,19 @@ impl Happened {
                 ..
             } => put_bytes(path, transcript),
             Happened::Erased { path, .. } => erased_bytes(path),
+            Happened::Started => EVENT_BYTES,
+            Happened::StartFailed => EVENT_BYTES,
+            Happened::DaemonLost => EVENT_BYTES,
             Happened::Begun { batch } => begun_bytes(batch.docs.items()),
             Happened::BatchDone { outcomes, .. } => done_bytes(outcomes.items()),
+            Happened::BatchDied { .. } => EVENT_BYTES,
+            Happened::Returned { .. } => EVENT_BYTES,
+            Happened::Shadowed => EVENT_BYTES,
+            Happened::MasterBegun => EVENT_BYTES,
+            Happened::MasterStep { split } => text_len(split.word.as_str()).saturating_add(
+                EVENT_BYTES,
+            ),
+            Happened::MasterEnded => EVENT_BYTES,
             Happened::Opened { .. } => EVENT_BYTES,
             Happened::Answered { paths, .. } => paths_len(paths.items()).saturating_add(
                 EVENT_BYTES,
@@ -116,11 +126,19 @@ impl Request {
                 text_len(path.as_str()).saturating_add(text_len(text.as_str()))
             }
             Request::Query(text) => text_len(text.as_str()),
-            Request::Pending => 0,
-            Request::Wait => 0,
-            Request::Quit => 0,
-            Request::Bad => 0,
-            Request::Long => 0,
+            Request::Filter
+            | Request::Shadow
+            | Request::Master
+            | Request::Step
+            | Request::Scan
+            | Request::Pending
+            | Request::Unfiltered
+            | Request::Status
+            | Request::Load { .. }
+            | Request::Wait
+            | Request::Quit
+            | Request::Bad
+            | Request::Long => 0,
         }
     }
 }
@@ -136,6 +154,8 @@ fn outcome_len(outcome: &Outcome) -> u64
 {
     match outcome {
         Outcome::Done(transcript) => pieces_len(transcript.items()).saturating_add(ITEM_BYTES),
+        Outcome::Failed(_) => ITEM_BYTES,
+        Outcome::Refused(_) => ITEM_BYTES,
     }
 }
 
@@ -174,59 +194,6 @@ fn paths_len(paths: &[PathText]) -> u64
     let mut len: u64 = 0;
     for path in paths {
         len = len.saturating_add(text_len(path.as_str()));
-    }
-    len
-}
-
-fn reply_len(id: u64, reply: &Reply) -> u64
-    ensures { result ≡ capped (length (reply_lines id reply.now)) }
-{
-    match reply {
-        Reply::Ok => word_len(id, "ok"),
-        Reply::Bad => word_len(id, "bad"),
-        Reply::Long => word_len(id, "long"),
-        Reply::Pending(notices) => pending_len(id, notices.items()),
-        Reply::Done => word_len(id, "done"),
-        Reply::Bye => word_len(id, "bye"),
-    }
-}
-
-// The printed line has the number, a space, the word and a line feed.
-fn word_len(id: u64, word: &str) -> u64
-    ensures { result ≡ capped (length (word_line id word.now)) }
-{
-    (word.len() as u64).saturating_add(decimal_len(id) + 2)
-}
-
-// The first line has both numbers, the word with spaces around it, and a line feed.
-fn pending_len(id: u64, notices: &[Notice]) -> u64
-    ensures { result ≡ capped (length (pending_lines id notices.now)) }
-{
-    notices_len(notices).saturating_add(decimal_len(id) + decimal_len(notices.len() as u64) + 10)
-}
-
-// Each line has a word of seven letters, a space, the path and a line feed.
-fn notices_len(notices: &[Notice]) -> u64
-    ensures { result ≡ capped (length (flat_map notice_line notices.now)) }
-{
-    let mut len: u64 = 0;
-    for notice in notices {
-        len = len
-            .saturating_add(notice.path.as_str().len() as u64)
-            .saturating_add(9);
-    }
-    len
-}
-
-fn decimal_len(number: u64) -> u64
-    ensures len { result ≡ length (decimal number) }
-    ensures small { result < 21 }
-{
-    let mut len = 1;
-    let mut rest = number;
-    while rest >= 10 {
-        rest /= 10;
-        len += 1;
     }
     len
 }

@@ -1,10 +1,8 @@
-ghost use Rattle.std.specs.Prelude.{◌≡◌, IfOk};
-
 use crate::{Outcomes, Paths, Reply, Request};
-use ci_base::{OutOfMemory, PathText, Seq};
+use ci_base::{PathText, Seq};
 use ci_change::{Batch, Notice};
 use ci_chunk::Transcript;
-use std::alloc::Global;
+use ci_keys::Key;
 
 /// One event of a session.
 #[derive(Debug, Drop)]
@@ -37,6 +35,12 @@ pub enum Happened {
         path: PathText,
         seq: Seq,
     },
+    /// The filter daemon was started: from now on the author holds a link to it.
+    Started,
+    /// The filter daemon couldn't be started.
+    StartFailed,
+    /// It couldn't be started too often in a row, and no start is tried any more.
+    DaemonLost,
     /// These documents are out, to be filtered.
     Begun {
         batch: Batch,
@@ -46,6 +50,25 @@ pub enum Happened {
         number: u64,
         outcomes: Outcomes,
     },
+    /// The daemon died within the document at this place of the batch.
+    BatchDied {
+        number: u64,
+        charged: u32,
+    },
+    /// The batch was given back as it was.
+    Returned {
+        number: u64,
+    },
+    /// The word lists became a shadow.
+    Shadowed,
+    /// A master merge began.
+    MasterBegun,
+    /// It has come to this key.
+    MasterStep {
+        split: Key,
+    },
+    /// It has ended.
+    MasterEnded,
     /// A query was opened: its answer speaks of the map right behind this event.
     Opened {
         id: u64,
@@ -62,80 +85,4 @@ pub enum Happened {
         id: u64,
         reply: Reply,
     },
-}
-
-impl Event {
-    /// Another event that equals this one.
-    pub fn copy(&self, alloc: Global) -> Result<Event, OutOfMemory>
-        ensures { IfOk result (λ event. event ≡ self.now) }
-    {
-        Ok(Event {
-            by: self.by,
-            what: self.what.copy(alloc)?,
-        })
-    }
-}
-
-impl Happened {
-    /// Another value that equals this one.
-    pub fn copy(&self, alloc: Global) -> Result<Happened, OutOfMemory>
-        ensures { IfOk result (λ what. what ≡ self.now) }
-    {
-        Ok(match self {
-            Happened::Asked { id, request } => Happened::Asked {
-                id: *id,
-                request: request.copy(alloc)?,
-            },
-            Happened::Noted { notice } => Happened::Noted {
-                notice: notice.copy(alloc)?,
-            },
-            Happened::Put {
-                path,
-                seq,
-                transcript,
-            } => copy_put(alloc, path, *seq, transcript)?,
-            Happened::Erased { path, seq } => Happened::Erased {
-                path: path.copy(alloc)?,
-                seq: *seq,
-            },
-            Happened::Begun { batch } => Happened::Begun {
-                batch: batch.copy(alloc)?,
-            },
-            Happened::BatchDone { number, outcomes } => Happened::BatchDone {
-                number: *number,
-                outcomes: outcomes.copy(alloc)?,
-            },
-            Happened::Opened { id } => Happened::Opened { id: *id },
-            Happened::Answered { id, at, paths } => copy_answered(alloc, *id, *at, paths)?,
-            Happened::Said { id, reply } => Happened::Said {
-                id: *id,
-                reply: reply.copy(alloc)?,
-            },
-        })
-    }
-}
-
-fn copy_put(
-    alloc: Global,
-    path: &PathText,
-    seq: Seq,
-    transcript: &Transcript,
-) -> Result<Happened, OutOfMemory>
-    ensures { IfOk result (λ what. what ≡ Happened.Put path.now seq transcript.now) }
-{
-    Ok(Happened::Put {
-        path: path.copy(alloc)?,
-        seq,
-        transcript: transcript.copy(alloc)?,
-    })
-}
-
-fn copy_answered(alloc: Global, id: u64, at: u64, paths: &Paths) -> Result<Happened, OutOfMemory>
-    ensures { IfOk result (λ what. what ≡ Happened.Answered id at paths.now) }
-{
-    Ok(Happened::Answered {
-        id,
-        at,
-        paths: paths.copy(alloc)?,
-    })
 }

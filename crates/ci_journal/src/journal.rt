@@ -1,4 +1,4 @@
-ghost use Rattle.std.specs.Prelude.{◌≡◌, ◌≢◌, ◌≤◌, ◌+◌, ◌++◌, [], ◌∷◌, OnOk};
+ghost use Rattle.std.specs.Prelude.{◌≡◌, ◌≢◌, ◌≤◌, ◌+◌, ◌++◌, [], ◌∷◌, IfOk, OnOk};
 
 use crate::Event;
 use ci_base::OutOfMemory;
@@ -56,5 +56,16 @@ impl Journal {
         ensures { result.now ≡ self.now.list }
     {
         self.events.as_slice()
+    }
+
+    /// Another list of the same events.
+    pub fn copy(&self, alloc: Global) -> Result<Journal, OutOfMemory>
+        ensures { IfOk result (λ journal. journal.list ≡ self.now.list) }
+    {
+        let mut events = Vec::new(alloc);
+        for event in self.events.iter() {
+            events.push(event.copy(alloc)?)?;
+        }
+        Ok(Journal { events })
     }
 }

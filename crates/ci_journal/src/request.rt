@@ -1,10 +1,7 @@
-ghost use Rattle.std.specs.Prelude.{◌≡◌, ◌≢◌, ◌≤◌, length, IfOk};
-ghost use Rattle.ci_io.specs.declared.line.TheConstants.{LINE_BYTES};
-ghost use Rattle.ci_journal.specs.Requests.{request_of, text_request, argument_request, word_request, changed_request, deleted_request, put_request, query_request, IsAskable, IsShort};
+ghost use Rattle.std.specs.Prelude.{◌≡◌, IfOk};
+ghost use Rattle.ci_journal.specs.Requests.{is_quit};
 
-use ci_base::{OutOfMemory, PathFault, PathText, Text};
-use ci_io::Line;
-use ci_words::Words;
+use ci_base::{OutOfMemory, PathText, Text};
 use std::alloc::Global;
 
 /// What a line asks for.
@@ -16,10 +13,26 @@ pub enum Request {
     Deleted(PathText),
     /// Take the text as the filtering of the document.
     Put { path: PathText, text: Text },
-    /// Which documents have the word?
+    /// Which documents satisfy the query?
     Query(Text),
+    /// Filter all documents that wait for it.
+    Filter,
+    /// Make the word lists a shadow.
+    Shadow,
+    /// Merge the index into one.
+    Master,
+    /// Begin to merge it into one, or make the next step of that.
+    Step,
+    /// Note what is in the folder, and what has gone from it.
+    Scan,
     /// Which notices are pending?
     Pending,
+    /// Which documents are set aside?
+    Unfiltered,
+    /// How many documents are there, and what is the index made of?
+    Status,
+    /// Put so many generated documents.
+    Load { seed: u64, count: u32 },
     /// Say when all earlier requests have their replies.
     Wait,
     /// End the session.
@@ -31,21 +44,11 @@ pub enum Request {
 }
 
 impl Request {
-    /// Reads the request of a line.
-    pub fn read(alloc: Global, line: &Line) -> Result<Request, OutOfMemory>
-        requires line { line.now ≢ Line.End }
-        requires short { IsShort line.now }
-        ensures ok { IfOk result (λ request. request ≡ request_of line.now) }
-        ensures askable { IfOk result IsAskable }
+    /// Whether the request ends the session.
+    pub fn is_quit(&self) -> bool
+        ensures { result ≡ is_quit self.now }
     {
-        match line {
-            Line::Text(bytes) => match str::from_utf8(bytes.items()) {
-                Ok(text) => read_text(alloc, text),
-                Err(_) => Ok(Request::Bad),
-            },
-            Line::Long => Ok(Request::Long),
-            Line::End => unreachable!(),
-        }
+        matches!(self, Request::Quit)
     }
 
     /// Another request that equals this one.
@@ -60,98 +63,22 @@ impl Request {
                 text: text.copy(alloc)?,
             },
             Request::Query(text) => Request::Query(text.copy(alloc)?),
+            Request::Filter => Request::Filter,
+            Request::Shadow => Request::Shadow,
+            Request::Master => Request::Master,
+            Request::Step => Request::Step,
+            Request::Scan => Request::Scan,
             Request::Pending => Request::Pending,
+            Request::Unfiltered => Request::Unfiltered,
+            Request::Status => Request::Status,
+            Request::Load { seed, count } => Request::Load {
+                seed: *seed,
+                count: *count,
+            },
             Request::Wait => Request::Wait,
             Request::Quit => Request::Quit,
             Request::Bad => Request::Bad,
             Request::Long => Request::Long,
         })
     }
-}
-
-fn read_text(alloc: Global, line: &str) -> Result<Request, OutOfMemory>
-    ensures { IfOk result (λ request. request ≡ text_request line.now) }
-{
-    match line.split_once(' ') {
-        Some((word, argument)) => read_argument(alloc, word, argument),
-        None => Ok(read_word(line)),
-    }
-}
-
-fn read_word(word: &str) -> Request
-    ensures { result ≡ word_request word.now }
-{
-    if word == "pending" {
-        return Request::Pending;
-    }
-    if word == "wait" {
-        return Request::Wait;
-    }
-    if word == "quit" {
-        return Request::Quit;
-    }
-    Request::Bad
-}
-
-fn read_argument(alloc: Global, word: &str, argument: &str) -> Result<Request, OutOfMemory>
-    ensures { IfOk result (λ request. request ≡ argument_request word.now argument.now) }
-{
-    if word == "changed" {
-        return read_changed(alloc, argument);
-    }
-    if word == "deleted" {
-        return read_deleted(alloc, argument);
-    }
-    if word == "put" {
-        return read_put(alloc, argument);
-    }
-    if word == "query" {
-        return read_query(alloc, argument);
-    }
-    Ok(Request::Bad)
-}
-
-fn read_changed(alloc: Global, path: &str) -> Result<Request, OutOfMemory>
-    ensures { IfOk result (λ request. request ≡ changed_request path.now) }
-{
-    match PathText::read(alloc, path.as_bytes()) {
-        Ok(path) => Ok(Request::Changed(path)),
-        Err(PathFault::BadPath) => Ok(Request::Bad),
-        Err(PathFault::OutOfMemory) => Err(OutOfMemory),
-    }
-}
-
-fn read_deleted(alloc: Global, path: &str) -> Result<Request, OutOfMemory>
-    ensures { IfOk result (λ request. request ≡ deleted_request path.now) }
-{
-    match PathText::read(alloc, path.as_bytes()) {
-        Ok(path) => Ok(Request::Deleted(path)),
-        Err(PathFault::BadPath) => Ok(Request::Bad),
-        Err(PathFault::OutOfMemory) => Err(OutOfMemory),
-    }
-}
-
-fn read_put(alloc: Global, argument: &str) -> Result<Request, OutOfMemory>
-    ensures { IfOk result (λ request. request ≡ put_request argument.now) }
-{
-    let Some((path, text)) = argument.split_once(' ') else {
-        return Ok(Request::Bad);
-    };
-    match PathText::read(alloc, path.as_bytes()) {
-        Ok(path) => Ok(Request::Put {
-            path,
-            text: Text::of(alloc, text)?,
-        }),
-        Err(PathFault::BadPath) => Ok(Request::Bad),
-        Err(PathFault::OutOfMemory) => Err(OutOfMemory),
-    }
-}
-
-fn read_query(alloc: Global, text: &str) -> Result<Request, OutOfMemory>
-    ensures { IfOk result (λ request. request ≡ query_request text.now) }
-{
-    if Words::of(alloc, text)?.len() == 1 {
-        return Ok(Request::Query(Text::of(alloc, text)?));
-    }
-    Ok(Request::Bad)
 }

@@ -2,26 +2,26 @@
 
 ghost use Rattle.std.specs.Prelude.{◌<◌, All, IfOk};
 
+use crate::notices::{noted, path};
 use crate::table::{Table, unmet};
 use ci_base::{PathText, Seq};
 use ci_change::{Batch, ChangeList, Docs, What};
 use std::alloc::Global;
 use std::test::Fail;
 
-fn path(alloc: Global, text: &str) -> Result<PathText, Fail> {
-    Ok(PathText::read(alloc, text.as_bytes()).ok().ok_or("a path")?)
-}
-
 // Three paths, of which the first was noted again and the second deleted.
-fn noted(alloc: Global) -> Result<ChangeList, Fail>
+fn three(alloc: Global) -> Result<ChangeList, Fail>
     ensures { IfOk result (λ list. All (λ n. n.seq.0 < 5) list.notices) }
 {
-    let mut list = ChangeList::new(alloc, 4);
-    list.note(&path(alloc, "/d/a.txt")?, Seq(1), What::Changed)?;
-    list.note(&path(alloc, "/d/b.txt")?, Seq(2), What::Deleted)?;
-    list.note(&path(alloc, "/c.txt")?, Seq(3), What::Changed)?;
-    list.note(&path(alloc, "/d/a.txt")?, Seq(4), What::Changed)?;
-    Ok(list)
+    let (a, b, c) = (
+        path(alloc, "/d/a.txt")?,
+        path(alloc, "/d/b.txt")?,
+        path(alloc, "/c.txt")?,
+    );
+    let list = noted(ChangeList::new(alloc, 4), &a, 1, What::Changed)?;
+    let list = noted(list, &b, 2, What::Deleted)?;
+    let list = noted(list, &c, 3, What::Changed)?;
+    noted(list, &a, 4, What::Changed)
 }
 
 // The pending notices, each with its number.
@@ -43,16 +43,24 @@ struct Served;
 
 impl Table for Served {
     fn told(alloc: Global, given: &str) -> Result<String, Fail> {
-        let mut list = noted(alloc)?;
+        let mut list = three(alloc)?;
         let mut told = String::new(alloc);
-        for row in given.split(';') {
-            let (name, seq) = row.split_once(' ').ok_or("a path")?;
-            let seq = seq.parse::<u64>().ok().ok_or("a number")?;
-            serve(alloc, &mut told, &mut list, name, seq)?;
-        }
-        pending(&mut told, &list)?;
+        serve_all(alloc, &mut told, &mut list, given)?;
         Ok(told)
     }
+}
+
+fn serve_all(
+    alloc: Global,
+    told: &mut String,
+    list: &mut ChangeList,
+    given: &str,
+) -> Result<(), Fail> {
+    for row in given.split(';') {
+        let (name, seq) = row.split_once(' ').ok_or("a path")?;
+        serve(alloc, told, list, name, seq.parse().ok().ok_or("a number")?)?;
+    }
+    pending(told, list)
 }
 
 fn serve(
@@ -84,13 +92,25 @@ fn the_latest_notices_are_pending_by_path(rt: HostRuntime) -> Result<(), Fail> {
 
 // What is pending where a path was served under 9 and then noted with the number 5.
 fn noted_late(alloc: Global) -> Result<String, Fail> {
-    let mut list = noted(alloc)?;
     let path = path(alloc, "/d/a.txt")?;
-    list.served(&path, Seq(9))?;
-    list.note(&path, Seq(5), What::Changed)?;
+    let list = noted(
+        served_under(three(alloc)?, &path, 9)?,
+        &path,
+        5,
+        What::Changed,
+    )?;
     let mut told = String::new(alloc);
     pending(&mut told, &list)?;
     Ok(told)
+}
+
+fn served_under(list: ChangeList, path: &PathText, seq: u64) -> Result<ChangeList, Fail>
+    requires { All (λ n. n.seq.0 < 5) list.notices }
+    ensures { IfOk result (λ list. All (λ n. n.seq.0 < 5) list.notices) }
+{
+    let mut list = list;
+    list.served(path, Seq(seq))?;
+    Ok(list)
 }
 
 #[test]
@@ -104,18 +124,19 @@ struct Taken;
 
 impl Table for Taken {
     fn told(alloc: Global, given: &str) -> Result<String, Fail> {
-        let mut list = noted(alloc)?;
+        let mut list = three(alloc)?;
         let mut told = String::new(alloc);
-        for row in given.split(' ') {
-            let most = row
-                .trim_end_matches('!')
-                .parse::<usize>()
-                .ok()
-                .ok_or("a number")?;
-            take(&mut told, &mut list, most, row.ends_with('!'))?;
-        }
+        take_all(&mut told, &mut list, given)?;
         Ok(told)
     }
+}
+
+fn take_all(told: &mut String, list: &mut ChangeList, given: &str) -> Result<(), Fail> {
+    for row in given.split(' ') {
+        let most = row.trim_end_matches('!').parse::<usize>();
+        take(told, list, most.ok().ok_or("a number")?, row.ends_with('!'))?;
+    }
+    Ok(())
 }
 
 fn take(
@@ -150,17 +171,34 @@ fn batches_take_the_first_free_ones(rt: HostRuntime) -> Result<(), Fail> {
     Ok(())
 }
 
-// The documents of a batch, from a copy, and which of the paths it has.
-fn documents(alloc: Global) -> Result<String, Fail> {
+// Two documents, from a copy, and as a `Vec`.
+fn two_docs(alloc: Global) -> Result<Docs, Fail> {
     let mut docs = Docs::new(alloc);
     docs.add((path(alloc, "/b")?, Seq(2)))?;
     docs.add((path(alloc, "/a")?, Seq(1)))?;
-    let docs = Docs::from(docs.copy(alloc)?.into_vec());
-    let batch = Batch { number: 1, docs }.copy(alloc)?;
+    Ok(Docs::from(docs.copy(alloc)?.into_vec()))
+}
+
+fn two(alloc: Global) -> Result<Batch, Fail> {
+    let docs = two_docs(alloc)?;
+    Ok(Batch { number: 1, docs }.copy(alloc)?)
+}
+
+fn has(alloc: Global, batch: &Batch, name: &str) -> Result<bool, Fail> {
+    Ok(batch.has(&path(alloc, name)?))
+}
+
+// The documents of a batch, and which of the paths it has.
+fn documents(alloc: Global) -> Result<String, Fail> {
+    let batch = two(alloc)?;
     let mut told = String::new(alloc);
     tell_batch(&mut told, &batch)?;
-    let (held, other) = (path(alloc, "/a")?, path(alloc, "/c")?);
-    write!(told, " {} {}", batch.has(&held), batch.has(&other))?;
+    write!(
+        told,
+        " {} {}",
+        has(alloc, &batch, "/a")?,
+        has(alloc, &batch, "/c")?
+    )?;
     Ok(told)
 }
 

@@ -12,6 +12,8 @@ mod lines;
 #[cfg(test)]
 mod noise;
 #[cfg(test)]
+mod notices;
+#[cfg(test)]
 mod paths;
 #[cfg(test)]
 mod table;

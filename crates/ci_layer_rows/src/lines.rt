@@ -11,21 +11,45 @@ use std::test::Fail;
 // What five calls read of a source that fails at these calls, and how often it was called. Of a
 // text that isn't short its length is told.
 fn read(alloc: Global, bytes: Vec<u8>, fails: &[u64]) -> Result<(String, u64), Fail> {
-    let source = MemorySource::new(alloc, Text8::from(bytes), Vec::from_slice(alloc, fails)?);
-    let mut reader = LineReader::new(alloc, source).ok().ok_or("no memory")?;
-    let mut told = String::new(alloc);
-    for _ in 0..5 {
-        match reader.read_line(alloc) {
-            Ok(line) => tell(alloc, &mut told, &line)?,
-            Err(_) => told.push_str("failed ")?,
-        }
-    }
+    let mut reader = reader(alloc, source(alloc, bytes, fails)?)?;
+    let told = read_five(alloc, &mut reader)?;
     Ok((told, reader.into_source().calls()))
 }
 
-// Tells a line and its copy.
+fn source(alloc: Global, bytes: Vec<u8>, fails: &[u64]) -> Result<MemorySource, Fail> {
+    let fails = Vec::from_slice(alloc, fails)?;
+    Ok(MemorySource::new(alloc, Text8::from(bytes), fails))
+}
+
+fn reader(alloc: Global, source: MemorySource) -> Result<LineReader<MemorySource>, Fail> {
+    match LineReader::new(alloc, source) {
+        Ok(reader) => Ok(reader),
+        Err(_) => Err("no memory".into()),
+    }
+}
+
+fn read_five(alloc: Global, reader: &mut LineReader<MemorySource>) -> Result<String, Fail> {
+    let mut told = String::new(alloc);
+    for _ in 0..5 {
+        read_one(alloc, &mut told, reader)?;
+    }
+    Ok(told)
+}
+
+fn read_one(
+    alloc: Global,
+    told: &mut String,
+    reader: &mut LineReader<MemorySource>,
+) -> Result<(), Fail> {
+    match reader.read_line(alloc) {
+        Ok(line) => tell(alloc, told, &line),
+        Err(_) => Ok(told.push_str("failed ")?),
+    }
+}
+
+// Tells a line, whose copy equals it.
 fn tell(alloc: Global, told: &mut String, line: &Line) -> Result<(), Fail> {
-    if line.copy(alloc)? != *line {
+    if !is_copied(alloc, line)? {
         return Err("a copy equals its line".into());
     }
     match line {
@@ -33,6 +57,10 @@ fn tell(alloc: Global, told: &mut String, line: &Line) -> Result<(), Fail> {
         Line::Long => Ok(told.push_str("long ")?),
         Line::End => Ok(told.push_str("end ")?),
     }
+}
+
+fn is_copied(alloc: Global, line: &Line) -> Result<bool, Fail> {
+    Ok(line.copy(alloc)? == *line)
 }
 
 fn tell_text(told: &mut String, bytes: &[u8]) -> Result<(), Fail> {
@@ -117,21 +145,25 @@ fn a_source_is_asked_no_more_than_needed(rt: HostRuntime) -> Result<(), Fail> {
 }
 
 // Which of the pieces a sink takes that takes two bytes a call, has room for eight, and fails at
-// its third call; and then what it has.
+// its third call; and then what its copy has.
 fn sunk(alloc: Global, pieces: &[&str]) -> Result<String, Fail> {
     let mut sink = MemorySink::new(alloc, 2, Vec::from_slice(alloc, &[2u64])?, 8)?;
     let mut told = String::new(alloc);
-    for piece in pieces {
-        let sign = if put_all(&mut sink, piece.as_bytes()).is_ok() {
-            '+'
-        } else {
-            '-'
-        };
-        told.push(sign)?;
-    }
-    let copy = sink.copy(alloc)?;
-    told.push_str(std::str::from_utf8(copy.bytes()).ok().ok_or("a text")?)?;
+    put_pieces(&mut told, &mut sink, pieces)?;
+    tell_bytes(&mut told, sink.copy(alloc)?.bytes())?;
     Ok(told)
+}
+
+fn put_pieces(told: &mut String, sink: &mut MemorySink, pieces: &[&str]) -> Result<(), Fail> {
+    for piece in pieces {
+        let taken = put_all(sink, piece.as_bytes()).is_ok();
+        told.push(if taken { '+' } else { '-' })?;
+    }
+    Ok(())
+}
+
+fn tell_bytes(told: &mut String, bytes: &[u8]) -> Result<(), Fail> {
+    Ok(told.push_str(std::str::from_utf8(bytes).ok().ok_or("a text")?)?)
 }
 
 #[test]
@@ -143,8 +175,7 @@ fn a_sink_takes_what_fits(rt: HostRuntime) -> Result<(), Fail> {
 
 // How many bytes the copy of a source gives that fails at these calls. None where it fails.
 fn given(alloc: Global, fails: &[u64]) -> Result<Option<usize>, Fail> {
-    let bytes = Text8::of(alloc, b"fox")?;
-    let source = MemorySource::new(alloc, bytes, Vec::from_slice(alloc, fails)?);
+    let source = source(alloc, Vec::from_slice(alloc, b"fox")?, fails)?;
     let mut out = [0; 8];
     Ok(source.copy(alloc)?.take(&mut out).ok())
 }

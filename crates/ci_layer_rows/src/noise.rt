@@ -11,12 +11,17 @@ fn held(alloc: Global, noise: &NoiseList, words: &str) -> Result<String, Fail> {
     let noise = noise.copy(alloc)?;
     let mut told = String::new(alloc);
     for word in words.split(' ') {
-        if noise.holds(&Text::of(alloc, word)?) {
-            told.push_str(word)?;
-            told.push('|')?;
-        }
+        tell_held(alloc, &mut told, &noise, word)?;
     }
     Ok(told)
+}
+
+fn tell_held(alloc: Global, told: &mut String, noise: &NoiseList, word: &str) -> Result<(), Fail> {
+    if noise.holds(&Text::of(alloc, word)?) {
+        told.push_str(word)?;
+        told.push('|')?;
+    }
+    Ok(())
 }
 
 #[test]

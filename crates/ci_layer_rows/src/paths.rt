@@ -62,15 +62,28 @@ struct Given;
 impl Table for Given {
     fn told(alloc: Global, given: &str) -> Result<String, Fail> {
         let (limit, paths) = given.split_once(": ").ok_or("a limit")?;
-        let limit = limit.parse::<u32>().ok().ok_or("a number")?;
-        let mut numbers = Numbers::new(alloc, limit);
-        let mut told = String::new(alloc);
-        for text in paths.split(' ') {
-            tell_given(alloc, &mut told, &mut numbers, text)?;
-        }
-        tell_numbers(alloc, &mut told, &numbers)?;
-        Ok(told)
+        give_all(alloc, limit.parse::<u32>().ok().ok_or("a number")?, paths)
     }
+}
+
+fn give_all(alloc: Global, limit: u32, paths: &str) -> Result<String, Fail> {
+    let mut numbers = Numbers::new(alloc, limit);
+    let mut told = String::new(alloc);
+    tell_all(alloc, &mut told, &mut numbers, paths)?;
+    tell_numbers(alloc, &mut told, &numbers)?;
+    Ok(told)
+}
+
+fn tell_all(
+    alloc: Global,
+    told: &mut String,
+    numbers: &mut Numbers,
+    paths: &str,
+) -> Result<(), Fail> {
+    for text in paths.split(' ') {
+        tell_given(alloc, told, numbers, text)?;
+    }
+    Ok(())
 }
 
 fn tell_given(
@@ -107,18 +120,19 @@ fn paths_get_numbers(rt: HostRuntime) -> Result<(), Fail> {
 
 // What two paths get where there may be one, then three, and then none.
 fn limited(alloc: Global) -> Result<String, Fail> {
-    let (first, second) = (path(alloc, "/a")?, path(alloc, "/b")?);
     let mut numbers = Numbers::new(alloc, 1);
     let mut told = String::new(alloc);
     for limit in [1, 3, 0] {
         numbers.limit_to(limit);
-        let (one, other) = (
-            give(&mut numbers, None, &first),
-            give(&mut numbers, None, &second),
-        );
-        write!(told, "{one:?} {other:?} ")?;
+        tell_two(alloc, &mut told, &mut numbers)?;
     }
     Ok(told)
+}
+
+fn tell_two(alloc: Global, told: &mut String, numbers: &mut Numbers) -> Result<(), Fail> {
+    let one = give(numbers, None, &path(alloc, "/a")?);
+    let other = give(numbers, None, &path(alloc, "/b")?);
+    Ok(write!(told, "{one:?} {other:?} ")?)
 }
 
 #[test]

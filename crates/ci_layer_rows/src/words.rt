@@ -2,18 +2,25 @@
 //! and for case folding.
 
 use crate::table::{Table, unmet};
+use ci_base::Text;
 use ci_words::Words;
 use std::alloc::Global;
 use std::test::Fail;
 
 // The words of a text, each with a bar behind it.
 fn words_of(alloc: Global, text: &str) -> Result<String, Fail> {
-    let mut words = String::new(alloc);
-    for word in Words::of(alloc, text)?.iter() {
-        words.push_str(word.as_str())?;
-        words.push('|')?;
+    let words = Words::of(alloc, text)?;
+    let mut told = String::new(alloc);
+    tell_words(&mut told, &words)?;
+    Ok(told)
+}
+
+fn tell_words(told: &mut String, words: &[Text]) -> Result<(), Fail> {
+    for word in words {
+        told.push_str(word.as_str())?;
+        told.push('|')?;
     }
-    Ok(words)
+    Ok(())
 }
 
 // Rows of texts.

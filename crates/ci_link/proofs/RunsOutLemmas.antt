@@ -15,7 +15,7 @@ use Rattle.ci_link.specs.Line.{Exchanges, GivesSome, Receives, RunsOut, RunsShor
 use Rattle.ci_link.specs.Reading.{IsBegun}
 use Rattle.ci_link.specs.Talking.{Reads, RunsOutAt, RunsOutWithin, joined}
 use Rattle.ci_link.specs.declared.document.Document.{Document}
-use Rattle.ci_link.specs.declared.outcome.Outcome.{Outcome}
+use Rattle.ci_chunk.specs.declared.outcome.Outcome.{Outcome}
 use Rattle.ci_link.proofs.LineLemmas.{Appends-to, answers_join, calls_join, read_join}
 use Rattle.ci_link.proofs.TalkLemmas.{SoFar}
 

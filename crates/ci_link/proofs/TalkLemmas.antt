@@ -15,8 +15,8 @@ use Rattle.ci_link.specs.Reading.{IsBegun, IsRead, after}
 use Rattle.ci_link.specs.Reading as reading
 use Rattle.ci_link.specs.Talking.{AreRead, DiesAt, DiesWithin, HasOutcome, Reads, joined}
 use Rattle.ci_link.specs.declared.document.Document.{Document}
-use Rattle.ci_link.specs.declared.outcome.Outcome.{Outcome}
-use Rattle.ci_link.specs.declared.outcome.Outcome.TheVariants.{Done}
+use Rattle.ci_chunk.specs.declared.outcome.Outcome.{Outcome}
+use Rattle.ci_chunk.specs.declared.outcome.Outcome.TheVariants.{Done}
 use Rattle.ci_link.proofs.LineLemmas.{dies_behind, dies_illegal, dies_unanswered, exchanges_join, exchanges_none}
 
 -- a document's next call got no answer

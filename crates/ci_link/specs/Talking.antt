@@ -6,15 +6,18 @@ use Rattle.ci_chunk.specs.Talk.{Talk}
 use Rattle.ci_chunk.specs.declared.talk.Call.{Call}
 use Rattle.ci_link.specs.Line.{Dies, Exchanges, RunsOut, Speaking}
 use Rattle.ci_link.specs.Reading.{IsBegun, IsRead}
-use Rattle.ci_link.specs.declared.outcome.Outcome.{Outcome}
-use Rattle.ci_link.specs.declared.outcome.Outcome.TheVariants.{Done}
+use Rattle.ci_chunk.specs.declared.outcome.Outcome.{Outcome}
+use Rattle.ci_chunk.specs.declared.outcome.Outcome.TheVariants.{Done, Failed, Refused}
 use Rattle.ci_link.specs.declared.outcome.Talk.{Talk as Came}
 use Rattle.ci_link.specs.declared.outcome.Talk.TheVariants.{Finished, Died}
 use Rattle.ci_chunk.specs.declared.piece.Piece.{Piece}
 
--- each document was read, by the exchanges beside it, and has the outcome beside it
+-- each document was read, by the exchanges beside it, and has the outcome beside it; no talk comes to a failure of a
+-- document yet
 abbrev pub HasOutcome : List ℕ → Talk → Outcome → Type 0
 HasOutcome path talk (Done pieces) = IsRead path talk pieces
+HasOutcome path talk (Failed status) = ⊥
+HasOutcome path talk (Refused status) = ⊥
 
 abbrev pub AreRead : List (List ℕ × Seq) → List Talk → List Outcome → Type 0
 AreRead [] [] [] = ⊤

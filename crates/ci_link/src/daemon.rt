@@ -9,10 +9,10 @@ ghost use Rattle.ci_link.specs.Talking.{DiesWithin, Reads, RunsOutAt, RunsOutWit
 use crate::document::{Document, Next};
 use crate::send::send_all;
 use crate::stop::Stop;
-use crate::{Link, NoDaemon, Outcome, Outcomes, Talk};
+use crate::{Link, NoDaemon, Talk};
 use ci_base::{OutOfMemory, PathText};
 use ci_change::Batch;
-use ci_chunk::{Answer, Call, Transcript};
+use ci_chunk::{Answer, Call, Outcome, Outcomes, Transcript};
 use ci_io::Failed;
 use ci_wire::{Frame, FrameFault, Frames, encode_call};
 use std::alloc::Global;

@@ -29,7 +29,7 @@ pub use link::Link;
 pub use memory_link::MemoryLink;
 pub use memory_spawner::MemorySpawner;
 pub use no_daemon::NoDaemon;
-pub use outcome::{Outcome, Outcomes, Talk};
+pub use outcome::Talk;
 pub use record::LinkRecord;
 pub use records::Records;
 pub use spawner::{SpawnFault, Spawner};

@@ -102,11 +102,22 @@ fn act<S: Spawner>(
 fn acted<S: Spawner>(alloc: Global, spawner: &mut S, words: &str) -> Result<String, Fail> {
     let mut links = VecDeque::new(alloc);
     let mut signs = String::new(alloc);
+    act_all(alloc, spawner, &mut links, &mut signs, words)?;
+    Ok(signs)
+}
+
+fn act_all<S: Spawner>(
+    alloc: Global,
+    spawner: &mut S,
+    links: &mut VecDeque<S::Link>,
+    signs: &mut String,
+    words: &str,
+) -> Result<(), Fail> {
     for word in words.split(' ') {
-        let done = act(alloc, spawner, &mut links, word)?;
+        let done = act(alloc, spawner, links, word)?;
         signs.push(if done { '+' } else { '-' })?;
     }
-    Ok(signs)
+    Ok(())
 }
 
 // What is told of each link: the bytes sent, those given, and how it ended.
@@ -127,7 +138,12 @@ fn tell(told: &mut String, record: &LinkRecord) -> Result<(), Fail> {
 
 fn spawned(alloc: Global, words: &str) -> Result<String, Fail> {
     let mut spawner = spawner(alloc)?;
-    let signs = acted(alloc, &mut spawner, words)?;
+    acted_and_told(alloc, &mut spawner, words)
+}
+
+// The signs of some words, and what is told of the links that were given back.
+fn acted_and_told(alloc: Global, spawner: &mut MemorySpawner, words: &str) -> Result<String, Fail> {
+    let signs = acted(alloc, spawner, words)?;
     let told = told(alloc, spawner.records())?;
     Ok(format!(in alloc; "{}{}", signs.as_str(), told.as_str())?)
 }
@@ -144,7 +160,15 @@ fn links_come_in_order_and_are_recorded(rt: HostRuntime) -> Result<(), Fail> {
 
 fn surely_spawned(alloc: Global, words: &str) -> Result<String, Fail> {
     let mut spawner = sure_spawner(alloc)?;
-    let signs = acted(alloc, &mut spawner, words)?;
+    surely_acted(alloc, &mut spawner, words)
+}
+
+fn surely_acted(
+    alloc: Global,
+    spawner: &mut SureMemorySpawner,
+    words: &str,
+) -> Result<String, Fail> {
+    let signs = acted(alloc, spawner, words)?;
     let told = told(alloc, spawner.records())?;
     Ok(format!(in alloc; "{}{}", signs.as_str(), told.as_str())?)
 }
@@ -181,20 +205,14 @@ fn a_link_that_it_did_not_start_is_told_as_well(rt: HostRuntime) -> Result<(), F
 // What is told of a spawner with a link that was given back, and of its copy, which goes on.
 fn copied(alloc: Global) -> Result<String, Fail> {
     let mut spawner = spawner(alloc)?;
-    let signs = acted(alloc, &mut spawner, "start stop")?;
+    let one = acted_and_told(alloc, &mut spawner, "start stop")?;
+    let other = copy_told(alloc, &spawner)?;
+    Ok(format!(in alloc; "{}; {}", one.as_str(), other.as_str())?)
+}
+
+fn copy_told(alloc: Global, spawner: &MemorySpawner) -> Result<String, Fail> {
     let mut copy = spawner.copy(alloc)?;
-    let more = acted(alloc, &mut copy, "start start hear hear stop")?;
-    let (one, other) = (
-        told(alloc, spawner.records())?,
-        told(alloc, copy.records())?,
-    );
-    Ok(format!(in alloc;
-        "{}{}; {}{}",
-        signs.as_str(),
-        one.as_str(),
-        more.as_str(),
-        other.as_str()
-    )?)
+    acted_and_told(alloc, &mut copy, "start start hear hear stop")
 }
 
 #[test]

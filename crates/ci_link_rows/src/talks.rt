@@ -3,8 +3,8 @@
 use crate::table::{Table, unmet};
 use ci_base::{PathText, Seq, Text8};
 use ci_change::{Batch, Docs};
-use ci_chunk::{Call, Piece};
-use ci_link::{Daemon, Link, MemoryLink, Outcome, SureMemoryLink, Talk};
+use ci_chunk::{Call, Outcome, Piece};
+use ci_link::{Daemon, Link, MemoryLink, SureMemoryLink, Talk};
 use ci_wire::encode_call;
 use std::alloc::Global;
 use std::test::Fail;
@@ -70,13 +70,20 @@ pub(crate) fn talked<L: Link + Drop>(
     link: L,
     paths: &str,
 ) -> Result<(Talk, L), Fail> {
-    let mut daemon = Daemon::new(alloc, link).ok().ok_or("memory for a daemon")?;
     let batch = batch(alloc, paths)?;
     if batch.docs.items().is_empty() || batch.docs.items().len() > 16 {
         return Err("from one to sixteen documents".into());
     }
+    let mut daemon = daemon(alloc, link)?;
     let talk = daemon.talk(alloc, &batch)?;
     Ok((talk, daemon.into_link()))
+}
+
+fn daemon<L: Link + Drop>(alloc: Global, link: L) -> Result<Daemon<L>, Fail> {
+    match Daemon::new(alloc, link) {
+        Ok(daemon) => Ok(daemon),
+        Err(_) => Err("memory for a daemon".into()),
+    }
 }
 
 fn is_red(outcome: &Outcome) -> bool {
@@ -88,6 +95,7 @@ fn is_red(outcome: &Outcome) -> bool {
             ] => a.id == 1 && x.as_str() == "red" && b.id == 2 && y.as_str() == "",
             _ => false,
         },
+        Outcome::Failed(_) | Outcome::Refused(_) => false,
     }
 }
 
@@ -134,15 +142,22 @@ o1rn2e.; /d/a.txt /d/b.txt => died at 1
 
 // What came of so many documents, which are red.
 fn many_red(alloc: Global, count: usize) -> Result<String, Fail> {
-    let mut letters = String::new(alloc);
+    let paths = many_paths(alloc, count)?;
+    let answers = frames(alloc, RED.repeat(alloc, count)?.as_str())?;
+    came(
+        alloc,
+        SureMemoryLink::new(alloc, answers, 4096)?,
+        paths.as_str(),
+    )
+}
+
+fn many_paths(alloc: Global, count: usize) -> Result<String, Fail> {
     let mut paths = String::new(alloc);
     for number in 0..count {
-        letters.push_str(RED)?;
         let space = if number == 0 { "" } else { " " };
         write!(paths, "{space}/d/{number}.txt")?;
     }
-    let link = SureMemoryLink::new(alloc, frames(alloc, letters.as_str())?, 4096)?;
-    came(alloc, link, paths.as_str())
+    Ok(paths)
 }
 
 #[test]
@@ -166,9 +181,14 @@ fn call(alloc: Global, letter: char) -> Result<Call, Fail> {
 fn calls(alloc: Global, letters: &str) -> Result<Vec<u8>, Fail> {
     let mut bytes = Vec::new(alloc);
     for letter in letters.chars() {
-        bytes.extend_from_slice(encode_call(alloc, &call(alloc, letter)?)?.items())?;
+        add_call(alloc, &mut bytes, letter)?;
     }
     Ok(bytes)
+}
+
+fn add_call(alloc: Global, bytes: &mut Vec<u8>, letter: char) -> Result<(), Fail> {
+    let spelled = encode_call(alloc, &call(alloc, letter)?)?;
+    Ok(bytes.extend_from_slice(spelled.items())?)
 }
 
 // The bytes that are sent for one red document.
@@ -189,8 +209,12 @@ fn a_document_is_asked_for_call_by_call(rt: HostRuntime) -> Result<(), Fail> {
 fn copied(alloc: Global, paths: &str) -> Result<String, Fail> {
     let link = SureMemoryLink::new(alloc, frames(alloc, RED)?, 2048)?;
     let (talk, _link) = talked(alloc, link, paths)?;
-    let copy = talk.copy(alloc)?;
-    let (one, other) = (shown(alloc, &talk)?, shown(alloc, &copy)?);
+    shown_twice(alloc, &talk)
+}
+
+fn shown_twice(alloc: Global, talk: &Talk) -> Result<String, Fail> {
+    let one = shown(alloc, talk)?;
+    let other = shown(alloc, &talk.copy(alloc)?)?;
     Ok(format!(in alloc; "{} {}", one.as_str(), other.as_str())?)
 }
 

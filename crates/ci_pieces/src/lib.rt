@@ -4,7 +4,9 @@
 mod bytes;
 mod cut;
 mod front;
+mod law;
 mod piece;
 
 pub use cut::pieces;
+pub use law::pieces_law;
 pub use piece::{Piece, PieceKind};

@@ -1,4 +1,5 @@
 pub mod AnswerLemmas
+pub mod ApartLemmas
 pub mod AskedLemmas
 pub mod BegunLemmas
 pub mod LatestLemmas

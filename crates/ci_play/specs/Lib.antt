@@ -1,4 +1,6 @@
-pub mod Answerable
+pub mod Apart
+pub mod Latest
 pub mod Played
 pub mod Replay
 pub mod Steps
+pub mod Told

@@ -4,7 +4,7 @@ use Rattle.ci_core.specs.declared.core_fault.CoreFault.{CoreFault}
 use Rattle.ci_core.specs.declared.core_fault.CoreFault.TheVariants.{OutOfMemory}
 use Rattle.ci_core.specs.Core.{Core}
 use Rattle.ci_play.specs.declared.step.Step.{Step}
-use Rattle.ci_play.specs.declared.step.Step.TheVariants.{Ask, Note, Put, Erase, BeginBatch, FinishBatch, OpenQuery, Answer, Say}
+use Rattle.ci_play.specs.declared.step.Step.TheVariants.{Answer}
 use Rattle.ci_play.specs.Steps.{Holds, Does, IsStopped}
 
 -- the step was made; or its condition doesn't hold, and it was passed over
@@ -13,15 +13,8 @@ Plays old new step = (Holds old step × Does old new step) ⊎ (¬ Holds old ste
 
 -- there was no memory to see whether the step's condition holds, which only that of an answer takes
 abbrev pub IsUnseen : Step → CoreFault → Type 0
-IsUnseen (Ask by request) fault = ⊥
-IsUnseen (Note by path what) fault = ⊥
-IsUnseen (Put by path seq transcript) fault = ⊥
-IsUnseen (Erase by path) fault = ⊥
-IsUnseen (BeginBatch by max) fault = ⊥
-IsUnseen (FinishBatch by batch outcomes) fault = ⊥
-IsUnseen (OpenQuery by) fault = ⊥
 IsUnseen (Answer by id at paths) fault = fault ≡ OutOfMemory
-IsUnseen (Say by id reply) fault = ⊥
+IsUnseen _ fault = ⊥
 
 -- the step was refused; or it is unseen whether its condition holds, and nothing changed
 abbrev pub Stops : Core → Core → Step → CoreFault → Type 0

@@ -3,13 +3,14 @@ use Rattle.std.specs.Prelude.{◌≡◌, ◌≤◌, ◌+◌, ⊤, All, ℕ, Bool
 use Rattle.ci_change.specs.declared.batch.Batch.{Batch}
 use Rattle.ci_change.specs.declared.notice.What.TheVariants.{Changed}
 use Rattle.ci_journal.specs.declared.event.Happened.TheVariants.{Asked, Put as Putting, BatchDone, Answered, Said}
-use Rattle.ci_journal.specs.declared.outcome.Outcome.TheVariants.{Done}
-use Rattle.ci_journal.specs.Folds.{asked, notices}
+use Rattle.ci_chunk.specs.declared.outcome.Outcome.TheVariants.{Done}
+use Rattle.ci_journal.specs.Folds.{next_notice, requests_in}
 use Rattle.ci_journal.specs.Step.{MayPut, MayAnswer, MaySay}
 use Rattle.ci_core.specs.declared.core_fault.CoreFault.{CoreFault}
 use Rattle.ci_core.specs.declared.question.Question.{Question}
 use Rattle.ci_core.specs.Batches.{Begins, CanFinish, RefusesBeginning}
-use Rattle.ci_core.specs.Changes.{event, noted}
+use Rattle.ci_journal.specs.Tells.{event}
+use Rattle.ci_core.specs.Changes.{noted}
 use Rattle.ci_core.specs.Core.{Core}
 use Rattle.ci_core.specs.Erasing.{Erases, RefusesErasing}
 use Rattle.ci_core.specs.Opening.{OpensFirst, RefusesOpening}
@@ -24,7 +25,7 @@ abbrev pub Holds : Core → Step → Type 0
 Holds core (Ask by request) = by ≡ 0
 Holds core (Note by path what) = by ≡ 0
 Holds core (Put by path seq transcript) =
-    MayPut core.sheet.events by (record { path = path; seq = seq; what = Changed })
+    MayPut core.terms core.sheet.events by (record { path = path; seq = seq; what = Changed })
     × IsIndexable (Done transcript)
 Holds core (Erase by path) = ⊤
 Holds core (BeginBatch by max) = 1 ≤ max
@@ -34,17 +35,14 @@ Holds core (OpenQuery by) = ⊤
 Holds core (Answer by id at paths) = MayAnswer core.terms core.sheet.events id at paths
 Holds core (Say by id reply) = MaySay core.sheet.events id
 
--- the numbers that the next request and the next notice get
+-- the number that the next request gets
 abbrev pub next_request : Core → ℕ
-next_request core = length (asked core.sheet.events) + 1
-
-abbrev pub next_notice : Core → ℕ
-next_notice core = length (notices core.sheet.events) + 1
+next_request core = length (requests_in core.sheet.events) + 1
 
 -- what it does
 abbrev pub Does : Core → Core → Step → Type 0
 Does old new (Ask by request) = Makes old new (event by (Asked (next_request old) request))
-Does old new (Note by path what) = Makes old new (noted by path (next_notice old) what)
+Does old new (Note by path what) = Makes old new (noted by path (next_notice old.terms old.sheet.events) what)
 Does old new (Put by path seq transcript) = Makes old new (event by (Putting path seq transcript))
 Does old new (Erase by path) = (was_there : Bool) × Erases old new by path was_there
 Does old new (BeginBatch by max) = (batch : Option Batch) × Begins old new by max batch
@@ -57,7 +55,7 @@ Does old new (Say by id reply) = Makes old new (event by (Said id reply))
 -- how it is refused
 abbrev pub IsStopped : Core → Core → Step → CoreFault → Type 0
 IsStopped old new (Ask by request) = Refuses old new (event by (Asked (next_request old) request))
-IsStopped old new (Note by path what) = Refuses old new (noted by path (next_notice old) what)
+IsStopped old new (Note by path what) = Refuses old new (noted by path (next_notice old.terms old.sheet.events) what)
 IsStopped old new (Put by path seq transcript) =
     Refuses old new (event by (Putting path seq transcript))
 IsStopped old new (Erase by path) = RefusesErasing old new by path

@@ -1,16 +1,17 @@
-ghost use Rattle.std.specs.Prelude.{◌≡◌, ◌-◌, ◌<◌, ◌↔◌, true, slice_get, IfOk};
+ghost use Rattle.std.specs.Prelude.{◌≡◌, ◌↔◌, true, IfOk};
 ghost use Rattle.std.specs.Option.{option_copied};
-ghost use Rattle.ci_journal.specs.Folds.{asked};
+ghost use Rattle.ci_journal.specs.Folds.{request_at};
+ghost use Rattle.ci_journal.specs.Queries.{OpensBefore};
 ghost use Rattle.ci_journal.specs.Step.{MayAnswer};
 ghost use Rattle.ci_journal.specs.declared.event.Happened.TheVariants.{Opened};
-ghost use Rattle.ci_play.specs.Answerable.{OpensBefore, word_numbered};
 
 use crate::replay::hits_at;
-use crate::told::{opened_in, request_in};
-use ci_base::{OutOfMemory, PathText, Text};
-use ci_core::{Catalog, asked_word};
+use crate::told::{opening_in, request_in};
+use ci_base::{OutOfMemory, PathText};
+use ci_core::{Catalog, asked_tree};
 use ci_io::Sink;
 use ci_journal::{Event, Happened, Paths, Request};
+use ci_query::query_law;
 use std::alloc::Global;
 
 /// Whether these paths answer a query that was opened right before the place, and that has no
@@ -26,13 +27,18 @@ pub fn can_answer<K: Sink + Drop>(
         ↔ MayAnswer catalog.now.terms catalog.now.sheet.events id at paths.now) }
 {
     let journal = catalog.journal().events();
-    if id == 0 || catalog.replied(id) || !is_opened_before(journal, id, at) {
+    if catalog.replied(id) || !is_opened_before(journal, id, at) {
         return Ok(false);
     }
-    let Some(word) = word_numbered(alloc, journal, id)? else {
+    let Some(request) = request_numbered(journal, id) else {
         return Ok(false);
     };
-    let hits = hits_at(alloc, catalog.noise(), journal, at as usize, &word)?;
+    let Some(tree) = asked_tree(alloc, request, catalog.noise())? else {
+        return Ok(false);
+    };
+    // A text has one tree.
+    query_law();
+    let hits = hits_at(alloc, catalog.noise(), journal, at as usize, &tree)?;
     Ok(are_same(hits.items(), paths.items()))
 }
 
@@ -52,27 +58,18 @@ fn is_opened_before(journal: &[Event], id: u64, at: u64) -> bool
 fn opens(what: &Happened, id: u64) -> bool
     ensures { (result ≡ true) ↔ (what.now ≡ Opened id) }
 {
-    match opened_in(what) {
+    match opening_in(what) {
         Some(opened) => opened == id,
         None => false,
     }
 }
 
-// The word of the request with this number, if it asks for one.
-fn word_numbered(alloc: Global, journal: &[Event], id: u64) -> Result<Option<Text>, OutOfMemory>
-    requires { 0 < id }
-    ensures { IfOk result (λ word. word ≡ word_numbered journal.now id) }
-{
-    match request_numbered(journal, id) {
-        Some(request) => asked_word(alloc, request),
-        None => Ok(None),
-    }
-}
-
 fn request_numbered(journal: &[Event], id: u64) -> Option<&Request>
-    requires { 0 < id }
-    ensures { option_copied result ≡ slice_get (asked journal.now) (id - 1) }
+    ensures { option_copied result ≡ request_at journal.now id }
 {
+    if id == 0 {
+        return None;
+    }
     let mut before = id - 1;
     for event in journal {
         if let Some(request) = request_in(&event.what) {

@@ -1,12 +1,12 @@
 ghost use Rattle.std.specs.Prelude.{◌≡◌, ◌↔◌, true, slice_get, Contains};
 ghost use Rattle.std.specs.Option.{option_copied};
 ghost use Rattle.ci_journal.specs.declared.event.Happened.TheVariants.{Begun};
-ghost use Rattle.ci_journal.specs.Completions.{out};
-ghost use Rattle.ci_core.specs.Changes.{event};
+ghost use Rattle.ci_journal.specs.Filings.{out};
+ghost use Rattle.ci_journal.specs.Tells.{event};
 ghost use Rattle.ci_play.specs.Replay.{begun_as};
 
 use crate::same::is_same;
-use crate::told::{begun_in, is_out_behind};
+use crate::told::{batch_in, is_out_behind};
 use ci_change::Batch;
 use ci_journal::Event;
 
@@ -36,7 +36,7 @@ pub fn is_begun_by(events: &[Event], by: u32, batch: &Batch) -> bool
 fn tells_begun(told: &Event, by: u32, batch: &Batch) -> bool
     ensures { (result ≡ true) ↔ (told.now ≡ event by (Begun batch.now)) }
 {
-    match begun_in(&told.what) {
+    match batch_in(&told.what) {
         Some(begun) => told.by == by && is_same(begun, batch),
         None => false,
     }
@@ -47,7 +47,7 @@ pub fn batch_begun(journal: &[Event], number: u64) -> Option<&Batch>
     ensures { option_copied result ≡ slice_get (begun_as journal.now number) 0 }
 {
     for event in journal {
-        if let Some(batch) = begun_in(&event.what) {
+        if let Some(batch) = batch_in(&event.what) {
             if batch.number == number {
                 return Some(batch);
             }

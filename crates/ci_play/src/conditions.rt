@@ -1,8 +1,9 @@
 ghost use Rattle.std.specs.Prelude.{◌≡◌, ◌↔◌, true, All, length, IfOk};
 ghost use Rattle.ci_change.specs.declared.notice.What.{What};
-ghost use Rattle.ci_journal.specs.declared.outcome.Outcome.TheVariants.{Done as OutcomeDone};
-ghost use Rattle.ci_journal.specs.Folds.{asked};
+ghost use Rattle.ci_chunk.specs.declared.outcome.Outcome.TheVariants.{Done as OutcomeDone};
+ghost use Rattle.ci_journal.specs.Folds.{requests_in};
 ghost use Rattle.ci_journal.specs.Step.{MayPut, MaySay};
+ghost use Rattle.ci_journal.specs.Terms.{Terms, empty_beginning};
 ghost use Rattle.ci_core.specs.Batches.{CanFinish};
 ghost use Rattle.ci_core.specs.Serving.{IsIndexable};
 
@@ -24,7 +25,8 @@ pub fn can_put(
     seq: Seq,
     transcript: &Transcript,
 ) -> bool
-    ensures { (result ≡ true) ↔ (MayPut events.now by
+    ensures { (terms : Terms) → terms.beginning ≡ empty_beginning →
+        (result ≡ true) ↔ (MayPut terms events.now by
         (record { path = path.now; seq = seq; what = What.Changed })
         × IsIndexable (OutcomeDone transcript.now)) }
 {
@@ -50,7 +52,7 @@ pub fn can_say<K: Sink + Drop>(catalog: &Catalog<K>, id: u64) -> bool
 
 // How many requests were asked.
 fn requests(events: &[Event]) -> u64
-    ensures { result ≡ length (asked events.now) }
+    ensures { result ≡ length (requests_in events.now) }
 {
     let mut count: usize = 0;
     for event in events {

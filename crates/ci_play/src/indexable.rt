@@ -1,6 +1,6 @@
 ghost use Rattle.std.specs.Prelude.{◌≡◌, ◌↔◌, true, All, sum_by};
 ghost use Rattle.ci_entry.specs.Entry.{piece_bytes, text_bytes};
-ghost use Rattle.ci_journal.specs.declared.outcome.Outcome.TheVariants.{Done as OutcomeDone};
+ghost use Rattle.ci_chunk.specs.declared.outcome.Outcome.TheVariants.{Done as OutcomeDone};
 ghost use Rattle.ci_journal.specs.Bytes.{capped};
 ghost use Rattle.ci_core.specs.Serving.{IsIndexable};
 
@@ -57,5 +57,7 @@ fn can_be_indexed(outcome: &Outcome) -> bool
 {
     match outcome {
         Outcome::Done(transcript) => is_indexable(transcript),
+        Outcome::Failed(_) => false,
+        Outcome::Refused(_) => false,
     }
 }

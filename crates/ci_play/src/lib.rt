@@ -4,6 +4,7 @@
 mod answerable;
 mod batch_out;
 mod conditions;
+mod copies;
 mod indexable;
 mod latest;
 mod play;

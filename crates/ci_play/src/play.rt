@@ -94,7 +94,7 @@ fn play_put<K: Sink + Drop>(
     ensures fixed { KeepsFixed catalog.old catalog.new }
 {
     if can_put(catalog.journal().events(), by, &path, seq, &transcript) {
-        catalog.put(by, &path, seq, transcript)?;
+        return catalog.put(by, &path, seq, transcript);
     }
     Ok(())
 }
@@ -143,7 +143,7 @@ fn play_finish<K: Sink + Drop>(
     ensures fixed { KeepsFixed catalog.old catalog.new }
 {
     if can_finish(catalog.journal().events(), by, &batch, &outcomes) {
-        catalog.finish_batch(by, &batch, outcomes)?;
+        return catalog.finish_batch(by, &batch, outcomes);
     }
     Ok(())
 }

@@ -1,16 +1,21 @@
 ghost use Rattle.std.specs.Prelude.{◌≡◌, ◌≤◌, All, Some, None, fold, length, take, IfOk, OnOk};
 ghost use Rattle.ci_core.specs.Serving.{AllIndexable, HasIndexable, IsIndexable};
-ghost use Rattle.ci_journal.specs.declared.outcome.Outcome.TheVariants.{Done as OutcomeDone};
-ghost use Rattle.ci_journal.specs.Completions.{Filings, completed, completion_of, completions_of, file_event};
-ghost use Rattle.ci_journal.specs.Served.{Served, hits, live_map, nothing_served, serve, served_by};
+ghost use Rattle.ci_chunk.specs.declared.outcome.Outcome.TheVariants.{Done as OutcomeDone};
+ghost use Rattle.ci_core.specs.Core.{terms_of};
+ghost use Rattle.ci_journal.specs.Filings.{Filings, fate_of, fates, fates_at_end, filing};
+ghost use Rattle.ci_journal.specs.Served.{hits, live_map, serve, served_by};
 ghost use Rattle.ci_journal.specs.Step.{Run};
-ghost use Rattle.ci_journal.specs.Terms.{Terms};
+ghost use Rattle.ci_journal.specs.Tells.Ending.{Through};
+ghost use Rattle.ci_journal.specs.Tells.Fate.{Filtered, Gone};
+ghost use Rattle.ci_journal.specs.Terms.{Served, Terms, empty_beginning, found_served};
 ghost use Rattle.ci_play.specs.Replay.{FindsDone, Tells};
+ghost use Rattle.ci_play.specs.Told.{filed_behind};
 
 use crate::batch_out::batch_begun;
-use ci_base::{OutOfMemory, PathText, Seq, Text};
+use ci_base::{OutOfMemory, PathText, Seq};
 use ci_change::ChangeList;
 use ci_chunk::Transcript;
+use ci_dialect::Restriction;
 use ci_documents::{Documents, SharedEntry, make_place, plain_list, serve, take_away};
 use ci_entry::entry_of;
 use ci_journal::{Event, Happened, Outcome, Paths};
@@ -18,21 +23,21 @@ use ci_words::NoiseList;
 use std::alloc::Global;
 use std::marker::Model;
 
-/// The paths of the documents whose contents had the word at a place of the journal.
+/// The paths of the documents that satisfied the restriction at a place of the journal.
 pub fn hits_at(
     alloc: Global,
     noise: &NoiseList,
     journal: &[Event],
     at: usize,
-    word: &Text,
+    tree: &Restriction,
 ) -> Result<Paths, OutOfMemory>
     requires within { at ≤ length journal.now }
-    requires run { let terms : Terms = record { noise = noise.now } in Run terms journal.now }
+    requires run { let terms : Terms = terms_of noise.now in Run terms journal.now }
     requires indexable { AllIndexable journal.now }
-    ensures { let terms : Terms = record { noise = noise.now } in
-        IfOk result (λ paths. paths ≡ hits word.now (live_map terms (take at journal.now))) }
+    ensures { let terms : Terms = terms_of noise.now in
+        IfOk result (λ paths. paths ≡ hits tree.now (live_map terms (take at journal.now))) }
 {
-    Replay::to(alloc, noise, journal, at)?.hits(word)
+    Replay::to(alloc, noise, journal, at)?.hits(tree)
 }
 
 // The documents of a journal's front, which is served again, and the numbers under which they
@@ -58,7 +63,7 @@ impl Model for Replay {
 impl Replay {
     // Nothing is served.
     fn new(alloc: Global) -> Replay
-        ensures { Tells nothing_served result }
+        ensures { Tells (found_served empty_beginning) result }
     {
         Replay {
             alloc,
@@ -75,10 +80,10 @@ impl Replay {
         at: usize,
     ) -> Result<Replay, OutOfMemory>
         requires within { at ≤ length journal.now }
-        requires run { let terms : Terms = record { noise = noise.now } in Run terms journal.now }
+        requires run { let terms : Terms = terms_of noise.now in Run terms journal.now }
         requires indexable { AllIndexable journal.now }
-        ensures { let terms : Terms = record { noise = noise.now } in
-            IfOk result (λ r. Tells (served_by terms (completed (take at journal.now))) r) }
+        ensures { let terms : Terms = terms_of noise.now in
+            IfOk result (λ r. Tells (served_by terms (fates (take at journal.now))) r) }
     {
         let mut replay = Replay::new(alloc);
         for event in &journal[..at] {
@@ -87,15 +92,15 @@ impl Replay {
         Ok(replay)
     }
 
-    // The paths of the documents whose contents have the word.
-    fn hits(&self, word: &Text) -> Result<Paths, OutOfMemory>
+    // The paths of the documents that satisfy the restriction.
+    fn hits(&self, tree: &Restriction) -> Result<Paths, OutOfMemory>
         ensures { (served : Served) → Tells served self.now →
-            IfOk result (λ paths. paths ≡ hits word.now served.documents) }
+            IfOk result (λ paths. paths ≡ hits tree.now served.documents) }
     {
-        plain_list(self.alloc, &self.documents)?.hits(self.alloc, word)
+        plain_list(self.alloc, &self.documents)?.hits(self.alloc, tree)
     }
 
-    // What an event completes is served.
+    // What an event files is served.
     fn serve(
         &mut self,
         noise: &NoiseList,
@@ -103,11 +108,10 @@ impl Replay {
         what: &Happened,
     ) -> Result<(), OutOfMemory>
         requires { HasIndexable what.now }
-        ensures { let terms : Terms = record { noise = noise.now } in (filed : Filings) →
+        ensures { let terms : Terms = terms_of noise.now in (filed : Filings) →
             FindsDone journal.now filed what.now →
-            Tells (served_by terms filed.completed) self.old →
-            OnOk result
-            (Tells (served_by terms (file_event filed what.now).completed) self.new) }
+            Tells (served_by terms filed.filed) self.old →
+            OnOk result (Tells (served_by terms (filed_behind filed what.now)) self.new) }
     {
         match what {
             Happened::Asked { .. } => Ok(()),
@@ -118,6 +122,9 @@ impl Replay {
                 transcript,
             } => self.fill(noise, path, *seq, transcript),
             Happened::Erased { path, seq } => self.erase(path, *seq),
+            Happened::Started => Ok(()),
+            Happened::StartFailed => Ok(()),
+            Happened::DaemonLost => Ok(()),
             Happened::Begun { .. } => Ok(()),
             Happened::BatchDone { number, outcomes } => {
                 let Some(batch) = batch_begun(journal, *number) else {
@@ -125,6 +132,12 @@ impl Replay {
                 };
                 self.finish(noise, batch.docs.items(), outcomes.items())
             }
+            Happened::BatchDied { .. } => Ok(()),
+            Happened::Returned { .. } => Ok(()),
+            Happened::Shadowed => Ok(()),
+            Happened::MasterBegun => Ok(()),
+            Happened::MasterStep { .. } => Ok(()),
+            Happened::MasterEnded => Ok(()),
             Happened::Opened { .. } => Ok(()),
             Happened::Answered { .. } => Ok(()),
             Happened::Said { .. } => Ok(()),
@@ -139,9 +152,9 @@ impl Replay {
         outcomes: &[Outcome],
     ) -> Result<(), OutOfMemory>
         requires { All IsIndexable outcomes.now }
-        ensures { let terms : Terms = record { noise = noise.now } in (served : Served) →
+        ensures { let terms : Terms = terms_of noise.now in (served : Served) →
             Tells served self.old → OnOk result
-            (Tells (fold (serve terms) served (completions_of docs.now outcomes.now)) self.new) }
+            (Tells (fold (serve terms) served (fates_at_end docs.now (Through outcomes.now))) self.new) }
     {
         for ((path, seq), outcome) in docs.iter().zip(outcomes) {
             self.settle(noise, path, *seq, outcome)?;
@@ -158,9 +171,9 @@ impl Replay {
         outcome: &Outcome,
     ) -> Result<(), OutOfMemory>
         requires { IsIndexable outcome.now }
-        ensures { let terms : Terms = record { noise = noise.now } in (served : Served) →
+        ensures { let terms : Terms = terms_of noise.now in (served : Served) →
             Tells served self.old → OnOk result (Tells
-            (serve terms served (completion_of (path.now, seq) outcome.now)) self.new) }
+            (serve terms served (filing (path.now, seq) (fate_of outcome.now))) self.new) }
     {
         self.fill(noise, path, seq, transcript_of(outcome))
     }
@@ -174,9 +187,9 @@ impl Replay {
         transcript: &Transcript,
     ) -> Result<(), OutOfMemory>
         requires { IsIndexable (OutcomeDone transcript.now) }
-        ensures { let terms : Terms = record { noise = noise.now } in (served : Served) →
+        ensures { let terms : Terms = terms_of noise.now in (served : Served) →
             Tells served self.old → OnOk result (Tells (serve terms served
-            (record { path = path.now; seq = seq; filtered = Some transcript.now })) self.new) }
+            (record { path = path.now; seq = seq; fate = Filtered transcript.now })) self.new) }
     {
         let entry = SharedEntry::new(self.alloc, entry_of(self.alloc, transcript, noise)?)?;
         make_place(self.alloc, &mut self.documents, path)?;
@@ -190,7 +203,7 @@ impl Replay {
     fn erase(&mut self, path: &PathText, seq: Seq) -> Result<(), OutOfMemory>
         ensures { (terms : Terms) (served : Served) → Tells served self.old →
             OnOk result (Tells (serve terms served
-            (record { path = path.now; seq = seq; filtered = None })) self.new) }
+            (record { path = path.now; seq = seq; fate = Gone })) self.new) }
     {
         let served = self.changes.served_of(path);
         self.changes.served(path, seq)?;
@@ -202,9 +215,12 @@ impl Replay {
 }
 
 fn transcript_of(outcome: &Outcome) -> &Transcript
+    requires { IsIndexable outcome.now }
     ensures { OutcomeDone result.now ≡ outcome.now }
 {
     match outcome {
         Outcome::Done(transcript) => transcript,
+        Outcome::Failed(_) => unreachable!(),
+        Outcome::Refused(_) => unreachable!(),
     }
 }

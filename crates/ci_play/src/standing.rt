@@ -2,10 +2,12 @@ ghost use Rattle.std.specs.Prelude.{◌≡◌, IfErr, IfOk, map};
 ghost use Rattle.std.specs.FinMap.{entries};
 ghost use Rattle.ci_change.specs.Pending.{ListsByPath};
 ghost use Rattle.ci_core.specs.Fixed.{KeepsFixed};
-ghost use Rattle.ci_journal.specs.Completions.{pending};
+ghost use Rattle.ci_journal.specs.Pending.{pending};
 ghost use Rattle.ci_journal.specs.Served.{live_map};
 ghost use Rattle.ci_journal.specs.Step.{Run};
-ghost use Rattle.ci_law.specs.Law.{AllAnswer};
+ghost use Rattle.ci_journal.specs.Filings.{out};
+ghost use Rattle.ci_journal.specs.Law.{AllAnswer};
+ghost use Rattle.ci_play.specs.Apart.{AreApart};
 ghost use Rattle.ci_play.specs.Played.{Played, StopsBehind};
 
 use crate::{Step, run_core};
@@ -32,10 +34,11 @@ pub fn run_and_list<K: Sink + Drop>(
     ensures fixed { KeepsFixed catalog.old catalog.new }
     ensures run { Run catalog.new.terms catalog.new.sheet.events }
     ensures answers { AllAnswer catalog.new.terms catalog.new.sheet.events }
+    ensures apart { AreApart (out catalog.new.sheet.events) }
     ensures paths { IfOk result (λ standing. standing.paths
         ≡ map (λ d. d.0) (entries (live_map catalog.new.terms catalog.new.sheet.events))) }
     ensures pending { IfOk result (λ standing.
-        ListsByPath (pending catalog.new.sheet.events) standing.pending) }
+        ListsByPath (pending catalog.new.terms catalog.new.sheet.events) standing.pending) }
 {
     run_core(catalog, steps)?;
     let paths = catalog.paths()?;

@@ -1,7 +1,9 @@
 ghost use Rattle.std.specs.Prelude.{◌≡◌, OnOk, IfErr};
 ghost use Rattle.ci_core.specs.Fixed.{KeepsFixed};
 ghost use Rattle.ci_journal.specs.Step.{Run};
-ghost use Rattle.ci_law.specs.Law.{AllAnswer};
+ghost use Rattle.ci_journal.specs.Filings.{out};
+ghost use Rattle.ci_journal.specs.Law.{AllAnswer};
+ghost use Rattle.ci_play.specs.Apart.{AreApart};
 ghost use Rattle.ci_play.specs.Played.{Played, PlayedUntil};
 
 use crate::Step;
@@ -19,6 +21,7 @@ pub fn run_core<K: Sink + Drop>(catalog: &mut Catalog<K>, steps: Vec<Step>) -> R
     ensures fixed { KeepsFixed catalog.old catalog.new }
     ensures run { Run catalog.new.terms catalog.new.sheet.events }
     ensures answers { AllAnswer catalog.new.terms catalog.new.sheet.events }
+    ensures apart { AreApart (out catalog.new.sheet.events) }
 {
     let alloc = *steps.allocator();
     let played = play_all(alloc, catalog, steps);
@@ -46,6 +49,7 @@ fn play_all<K: Sink + Drop>(
 fn tell_run<K: Sink + Drop>(catalog: &Catalog<K>)
     ensures run { Run catalog.now.terms catalog.now.sheet.events }
     ensures answers { AllAnswer catalog.now.terms catalog.now.sheet.events }
+    ensures apart { AreApart (out catalog.now.sheet.events) }
 {
     let _journal = catalog.journal();
 }

@@ -9,7 +9,7 @@ use std::alloc::Global;
 use std::test::Fail;
 
 // A document is put and asked for, and then deleted; answers are tried at several places.
-fn asked_and_deleted(alloc: Global) -> Result<Vec<Step>, Fail> {
+pub(crate) fn asked_and_deleted(alloc: Global) -> Result<Vec<Step>, Fail> {
     let mut steps = Vec::new(alloc);
     note(&mut steps, "/p", What::Changed)?;
     put(&mut steps, "/p", 1, "red fox")?;

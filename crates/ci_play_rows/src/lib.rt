@@ -6,6 +6,8 @@ mod answers;
 #[cfg(test)]
 mod changes;
 #[cfg(test)]
+mod copies;
+#[cfg(test)]
 mod standings;
 #[cfg(test)]
 mod steps;

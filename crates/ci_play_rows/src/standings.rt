@@ -3,9 +3,9 @@
 ghost use Rattle.std.specs.Prelude.{◌≤◌};
 
 use ci_base::Seq;
-use ci_core::{Catalog, CoreFault, Settings};
+use ci_core::{Catalog, CoreFault, Question, Settings};
 use ci_io::SureMemorySink;
-use ci_journal::{Notice, What};
+use ci_journal::{Journal, Notice, What};
 use ci_play::{Standing, Step, run_and_list, run_core};
 use ci_words::NoiseList;
 use std::alloc::Global;
@@ -16,17 +16,16 @@ fn catalog(alloc: Global, documents: u32) -> Result<Catalog<SureMemorySink>, Fai
     requires some { 1 ≤ documents }
     requires few { documents ≤ 262144 }
 {
+    let sink = SureMemorySink::new(alloc, 64, 1024)?;
     let settings = Settings {
         journal: 65_536,
         documents,
         noise: NoiseList::standard(alloc)?,
     };
-    let sink = SureMemorySink::new(alloc, 64, 1024)?;
-    Ok(
-        Catalog::new(alloc, sink, &settings)
-            .ok()
-            .ok_or("no memory")?,
-    )
+    match Catalog::new(alloc, sink, &settings) {
+        Ok(catalog) => Ok(catalog),
+        Err(_) => Err("no memory".into()),
+    }
 }
 
 /// How a list of steps ended, and what it left.
@@ -35,6 +34,7 @@ pub(crate) struct Left {
     pub(crate) ended: Result<(), CoreFault>,
     pub(crate) crowded: bool,
     pub(crate) events: usize,
+    pub(crate) copied: usize,
     pub(crate) documents: usize,
     pub(crate) replied: bool,
 }
@@ -46,14 +46,48 @@ pub(crate) fn play(alloc: Global, documents: u32, steps: Vec<Step>) -> Result<Le
 {
     let mut catalog = catalog(alloc, documents)?;
     let ended = run_core(&mut catalog, steps);
-    let kept = catalog.paths()?.items().len();
+    tell_left(alloc, ended, &catalog)
+}
+
+fn tell_left(
+    alloc: Global,
+    ended: Result<(), CoreFault>,
+    catalog: &Catalog<SureMemorySink>,
+) -> Result<Left, Fail> {
+    let documents = catalog.paths()?.items().len();
+    let copied = count_copied(alloc, catalog.journal())?;
     Ok(Left {
         ended,
         crowded: is_crowded(catalog.fault()),
         events: catalog.journal().events().len(),
-        documents: kept,
+        copied,
+        documents,
         replied: catalog.replied(1),
     })
+}
+
+// How many events the copy of a journal has.
+fn count_copied(alloc: Global, journal: &Journal) -> Result<usize, Fail> {
+    Ok(journal.copy(alloc)?.events().len())
+}
+
+/// How many hits the query has that waits behind the steps, and how many by a copy of its question.
+pub(crate) fn count_hits(alloc: Global, steps: Vec<Step>) -> Result<(usize, usize), Fail> {
+    let mut catalog = catalog(alloc, 8)?;
+    let _ended = run_core(&mut catalog, steps);
+    open_next(alloc, &mut catalog)
+}
+
+fn open_next(alloc: Global, catalog: &mut Catalog<SureMemorySink>) -> Result<(usize, usize), Fail> {
+    match catalog.open_query(0)? {
+        Some(question) => hits_of(alloc, &question),
+        None => Err("a question".into()),
+    }
+}
+
+fn hits_of(alloc: Global, question: &Question) -> Result<(usize, usize), Fail> {
+    let hits = question.hits(alloc)?.items().len();
+    Ok((hits, question.copy(alloc)?.hits(alloc)?.items().len()))
 }
 
 fn is_crowded(fault: Option<&CoreFault>) -> bool {

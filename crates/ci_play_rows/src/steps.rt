@@ -2,8 +2,8 @@
 
 use ci_base::{PathText, Seq, Text};
 use ci_change::{Batch, Docs};
-use ci_chunk::Transcript;
-use ci_journal::{Outcome, Outcomes, Paths, Reply, Request, What};
+use ci_chunk::{Outcome, Outcomes, Transcript};
+use ci_journal::{Paths, Reply, Request, What};
 use ci_play::Step;
 use std::alloc::Global;
 use std::test::Fail;

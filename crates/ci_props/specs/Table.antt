@@ -38,3 +38,8 @@ number_of_name name =
 abbrev pub kind_of_number : ℕ → Option Kind
 kind_of_number number =
     option_map (λ property. property.kind) (find (λ property. property.number == number) table)
+
+-- the name of the property of this number, if the table has one
+abbrev pub name_of_number : ℕ → Option (List ℕ)
+name_of_number number =
+    option_map (λ property. property.name) (find (λ property. property.number == number) table)

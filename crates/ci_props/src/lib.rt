@@ -6,5 +6,5 @@ mod property;
 mod relation;
 
 pub use pattern::matches_pattern;
-pub use property::{Kind, kind_of, named};
+pub use property::{Kind, kind_of, name_of, named};
 pub use relation::{Relation, compare};

@@ -1,5 +1,6 @@
 ghost use Rattle.std.specs.Prelude.{◌≡◌};
-ghost use Rattle.ci_props.specs.Table.{kind_of_number, number_of_name};
+ghost use Rattle.std.specs.Option.{option_map};
+ghost use Rattle.ci_props.specs.Table.{kind_of_number, name_of_number, number_of_name};
 
 use ci_base::PropNo;
 
@@ -46,4 +47,14 @@ pub fn kind_of(property: PropNo) -> Option<Kind>
         .iter()
         .find(|row| row.0 == property.0)
         .map(|row| row.2)
+}
+
+/// The name of the property of this number, as the table spells it.
+pub fn name_of(property: PropNo) -> Option<&'static str>
+    ensures { option_map (λ name. name.now) result ≡ name_of_number property.0 }
+{
+    TABLE
+        .iter()
+        .find(|row| row.0 == property.0)
+        .map(|row| row.1)
 }

@@ -1,13 +1,14 @@
 //! Documents of several pieces: words of one phrase on either side of a break, and values.
 
-ghost use Rattle.std.specs.Prelude.{◌≡◌, ◌+◌, ◌≤◌, IfOk, OnOk, length};
+ghost use Rattle.std.specs.Prelude.{◌≡◌, ◌+◌, ◌≤◌, IfOk, length};
 ghost use Rattle.ci_entry.specs.Entry.{text_bytes};
 
 use crate::table::{Table, unmet};
 use ci_base::{PathText, PropNo, Text, Value};
 use ci_chunk::{Break, ChunkState, Piece, StatChunk, Transcript};
 use ci_entry::entry_of;
-use ci_query::parse;
+use ci_keys::Entry;
+use ci_query::{Restriction, parse};
 use ci_restrict::satisfies;
 use ci_words::NoiseList;
 use std::alloc::Global;
@@ -26,22 +27,23 @@ fn chunk(break_type: Break, state: ChunkState, property: u16) -> StatChunk {
     }
 }
 
-// Adds a text of the property that has this break before it.
-fn add_text(
-    alloc: Global,
-    list: &mut Transcript,
+// With a text more of the property, which has this break before it. The list goes through the call
+// as a value, so that nothing else holds it where it is refused.
+fn with_text(
+    list: Transcript,
     break_type: Break,
     property: u16,
-    text: &str,
-) -> Result<(), Fail>
-    ensures count { OnOk result (length list.new ≡ length list.old + 1) }
-    ensures bytes { OnOk result (text_bytes list.new ≡ text_bytes list.old + length text.now) }
+    text: Text,
+) -> Result<Transcript, Fail>
+    ensures count { IfOk result (λ t. length t ≡ length list + 1) }
+    ensures bytes { IfOk result (λ t. text_bytes t ≡ text_bytes list + length text) }
 {
+    let mut list = list;
     list.add(Piece::Words {
         chunk: chunk(break_type, ChunkState::Text, property),
-        text: Text::of(alloc, text)?,
+        text,
     })?;
-    Ok(())
+    Ok(list)
 }
 
 // Whether a document of these pieces satisfies a query.
@@ -49,11 +51,14 @@ fn holds(alloc: Global, read: &Transcript, query: &str) -> Result<bool, Fail>
     requires pieces { length read.now ≤ 65536 }
     requires bytes { text_bytes read.now ≤ 1048576 }
 {
-    let path = PathText::read(alloc, b"/d/a.txt").ok().ok_or("a path")?;
     let noise = NoiseList::standard(alloc)?;
     let entry = entry_of(alloc, read, &noise)?;
-    let restriction = parse(alloc, query, &noise)?;
-    Ok(satisfies(alloc, &restriction, &path, &entry)?)
+    is_held(alloc, &parse(alloc, query, &noise)?, &entry)
+}
+
+fn is_held(alloc: Global, restriction: &Restriction, entry: &Entry) -> Result<bool, Fail> {
+    let path = PathText::read(alloc, b"/d/a.txt")?;
+    Ok(satisfies(alloc, restriction, &path, entry)?)
 }
 
 // Two texts of one property.
@@ -61,10 +66,9 @@ fn broken(alloc: Global, break_type: Break, property: u16) -> Result<Transcript,
     ensures count { IfOk result (λ t. length t ≡ 2) }
     ensures bytes { IfOk result (λ t. text_bytes t ≡ 7) }
 {
-    let mut read = Transcript::new(alloc);
-    add_text(alloc, &mut read, Break::Eop, property, "fire")?;
-    add_text(alloc, &mut read, break_type, property, "fox")?;
-    Ok(read)
+    let (fire, fox) = (Text::of(alloc, "fire")?, Text::of(alloc, "fox")?);
+    let read = with_text(Transcript::new(alloc), Break::Eop, property, fire)?;
+    with_text(read, break_type, property, fox)
 }
 
 // Whether a document of the words fire and fox, with this break between them, satisfies a query.

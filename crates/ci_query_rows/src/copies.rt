@@ -21,9 +21,8 @@ fn shown(alloc: Global, tree: &Restriction) -> Result<String, Fail> {
 /// Whether the copy of a text's tree is shown as the tree is.
 pub(crate) fn is_copied(alloc: Global, text: &str) -> Result<bool, Fail> {
     let one = tree(alloc, text)?;
-    let other = one.copy(alloc)?;
-    let (one, other) = (shown(alloc, &one)?, shown(alloc, &other)?);
-    Ok(one.as_str() == other.as_str())
+    let copy = shown(alloc, &one.copy(alloc)?)?;
+    Ok(shown(alloc, &one)?.as_str() == copy.as_str())
 }
 
 // Rows of queries.
@@ -66,13 +65,17 @@ fn copied_slots(alloc: Global) -> Result<String, Fail> {
     let list = Slots::new(slots(alloc)?).copy(alloc)?;
     let mut told = String::new(alloc);
     for slot in list.items() {
-        match slot.copy(alloc)? {
-            Slot::Word(word) => told.push_str(word.as_str())?,
-            Slot::Open => told.push('_')?,
-        }
+        tell_slot(&mut told, &slot.copy(alloc)?)?;
     }
     write!(told, " {}", list.into_vec().len())?;
     Ok(told)
+}
+
+fn tell_slot(told: &mut String, slot: &Slot) -> Result<(), Fail> {
+    match slot {
+        Slot::Word(word) => Ok(told.push_str(word.as_str())?),
+        Slot::Open => Ok(told.push('_')?),
+    }
 }
 
 #[test]

@@ -1,9 +1,12 @@
 //! Documents and the queries that they satisfy.
 
+ghost use Rattle.std.specs.Prelude.{◌≤◌, length};
+
 use crate::table::{Table, unmet};
 use ci_base::{PathText, PropNo, Text};
 use ci_chunk::Transcript;
 use ci_entry::entry_of;
+use ci_keys::Entry;
 use ci_query::{Restriction, parse};
 use ci_restrict::satisfies;
 use ci_words::NoiseList;
@@ -20,10 +23,18 @@ fn is_satisfied(
     if text.len() > 65_536 {
         return Err("a short text".into());
     }
-    let path = PathText::read(alloc, path.as_bytes()).ok().ok_or("a path")?;
-    let transcript = Transcript::plain(alloc, &path, text)?;
-    let entry = entry_of(alloc, &transcript, &NoiseList::standard(alloc)?)?;
+    let path = PathText::read(alloc, path.as_bytes())?;
+    let entry = plain_entry(alloc, &path, text)?;
     Ok(satisfies(alloc, restriction, &path, &entry)?)
+}
+
+// The entry of a plain text.
+fn plain_entry(alloc: Global, path: &PathText, text: &str) -> Result<Entry, Fail>
+    requires { length text.now ≤ 65536 }
+{
+    let transcript = Transcript::plain(alloc, path, text)?;
+    let noise = NoiseList::standard(alloc)?;
+    Ok(entry_of(alloc, &transcript, &noise)?)
 }
 
 /// Whether it satisfies a query.

@@ -1,51 +1,14 @@
 //! The catalogue's steps, and the journal that they leave.
 
-use ci_base::{PathText, Seq, Text, Text8};
+use ci_base::{PathText, Seq};
 use ci_core::{Catalog, Settings};
-use ci_io::{LINE_BYTES, Line, SureMemorySink};
-use ci_journal::{Event, Happened, Notice, Paths, Reply, Request, What};
+use ci_io::SureMemorySink;
+use ci_journal::{Event, Happened, Notice, Paths, Reply, What};
 use std::alloc::Global;
 use std::test::Fail;
 
 fn path(alloc: Global, text: &str) -> Result<PathText, Fail> {
     Ok(PathText::read(alloc, text.as_bytes()).ok().ok_or("a path")?)
-}
-
-fn request(alloc: Global, line: &str) -> Result<Request, Fail> {
-    if line.len() > LINE_BYTES {
-        return Err(Fail::new("too long a line"));
-    }
-    Ok(Request::read(alloc, &Line::Text(Text8::of(alloc, line.as_bytes())?))?)
-}
-
-#[test]
-fn requests_are_read(rt: HostRuntime) -> Result<(), Fail> {
-    let alloc = rt.alloc();
-    let put = Request::Put {
-        path: path(alloc, "/d/a.txt")?,
-        text: Text::of(alloc, "Red  fox")?,
-    };
-    assert!(rt; request(alloc, "put /d/a.txt Red  fox")? == put);
-    assert!(rt; put.copy(alloc)? == put);
-    assert!(rt; request(alloc, "query FOX")? == Request::Query(Text::of(alloc, "FOX")?));
-    assert!(rt; request(alloc, "changed /a b")? == Request::Changed(path(alloc, "/a b")?));
-    assert!(rt; request(alloc, "deleted /a")? == Request::Deleted(path(alloc, "/a")?));
-    assert!(rt; request(alloc, "pending")? == Request::Pending);
-    for line in [
-        "",
-        "put",
-        "put /d/a.txt",
-        "Put /d/a.txt x",
-        " query x",
-        "query",
-        "query a b",
-        "changed",
-        "deleted a",
-        "wait now",
-    ] {
-        assert!(rt; request(alloc, line)? == Request::Bad, "{line:?}");
-    }
-    Ok(())
 }
 
 #[test]

@@ -4,11 +4,15 @@
 #[cfg(test)]
 mod catalogue;
 #[cfg(test)]
+mod dialect;
+#[cfg(test)]
 mod ends;
 #[cfg(test)]
 mod large;
 #[cfg(test)]
 mod pieces;
+#[cfg(test)]
+mod requests;
 #[cfg(test)]
 mod session;
 #[cfg(test)]

@@ -20,26 +20,27 @@ hello|wait|quit => Done 6: 1 bad|2 done|3 bye|";
 
 #[test]
 fn other_lines_are_bad(rt: HostRuntime) -> Result<(), Fail> {
-    // no known line, an empty one, a path with an empty part, a query of two words, and one of none;
-    // lines that aren't UTF-8
+    // no known line, an empty one, a path with an empty part, a query without a text; lines that
+    // aren't UTF-8; lines that are known, and that nothing serves yet
     const ROWS: &str = "\
-hello||put /d//a x|query two words|query|query |put /d/a| => Done 14: 1 bad|2 bad|3 bad|4 bad|5 bad|6 bad|7 bad|
+hello||put /d//a x|query|put /d/a| => Done 10: 1 bad|2 bad|3 bad|4 bad|5 bad|
 changed /|changed /a//b|changed /a/../b| => Done 6: 1 bad|2 bad|3 bad|
 wait |quit now|pending x| => Done 6: 1 bad|2 bad|3 bad|
-put /a fo?x|?|changed /?|query ?|wait| => Done 10: 1 bad|2 bad|3 bad|4 bad|5 done|";
+put /a fo?x|?|changed /?|query ?|wait| => Done 10: 1 bad|2 bad|3 bad|4 bad|5 done|
+filter|shadow|master|step|scan| => Done 10: 1 bad|2 bad|3 bad|4 bad|5 bad|
+unfiltered|status|load 7 3| => Done 6: 1 bad|2 bad|3 bad|";
     assert_eq!(rt; unmet::<Sessions>(rt.alloc(), ROWS)?.as_str(), "");
     Ok(())
 }
 
 #[test]
 fn a_query_lists_the_documents_of_its_point(rt: HostRuntime) -> Result<(), Fail> {
-    // asked for before and after a second put; the later text of a path; an empty one; a noise word;
-    // between a change and its put; a put behind a deletion
+    // asked for before and after a second put; the later text of a path; an empty one; between a
+    // change and its put; a put behind a deletion
     const ROWS: &str = "\
 put /d/b.txt fox|query fox|put /d/a.txt fox|query fox| => Done 14: 1 ok|2 hits 1 at 6|/d/b.txt|3 ok|4 hits 2 at 13|/d/a.txt|/d/b.txt|
 put /d/a.txt fox|put /d/a.txt dog|query fox|query dog| => Done 14: 1 ok|2 ok|3 hits 0 at 10|4 hits 1 at 13|/d/a.txt|
-put /d/a.txt |query x| => Done 7: 1 ok|2 hits 0 at 6|
-put /a the fox|query the| => Done 7: 1 ok|2 hits 0 at 6|
+put /d/a.txt |query fox| => Done 7: 1 ok|2 hits 0 at 6|
 put /a fox|changed /a|query fox|put /a dog|query fox| => Done 17: 1 ok|2 ok|3 hits 1 at 9|/a|4 ok|5 hits 0 at 16|
 put /a fox|deleted /a|put /a dog|query dog| => Done 15: 1 ok|2 ok|3 ok|4 hits 1 at 14|/a|";
     assert_eq!(rt; unmet::<Sessions>(rt.alloc(), ROWS)?.as_str(), "");

@@ -173,10 +173,9 @@ fn letter(what: &Happened) -> char {
         Happened::Noted { .. } => 'n',
         Happened::Put { .. } => 'p',
         Happened::Erased { .. } => 'e',
-        Happened::Begun { .. } => 'b',
-        Happened::BatchDone { .. } => 'd',
         Happened::Opened { .. } => 'o',
         Happened::Answered { .. } => 'a',
         Happened::Said { .. } => 's',
+        _ => '?',
     }
 }

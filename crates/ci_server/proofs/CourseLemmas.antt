@@ -3,25 +3,27 @@ use Rattle.std.proofs.Common.{arith, ◌≡◌, ◌≢◌, ◌∙◌, ◌≤◌,
 use Rattle.std.specs.Io.KnownBytes.{Appends}
 use Rattle.ci_io.specs.Causes.{Rose}
 use Rattle.ci_io.specs.Reading.{Reading, ahead}
-use Rattle.ci_change.specs.Pending.{latest_number, served_number}
 use Rattle.ci_journal.specs.declared.event.Event.{Event}
 use Rattle.ci_journal.specs.Bytes.{journal_bytes}
-use Rattle.ci_journal.specs.Completions.{completed, numbered, numbers_of}
 use Rattle.ci_journal.specs.declared.request.Request.TheVariants as request
-use Rattle.ci_journal.specs.Folds.{asked, last_of, notices, unopened}
+use Rattle.ci_journal.specs.Folds.{numbered_paths, requests_in}
 use Rattle.ci_journal.specs.Printed.{printed}
 use Rattle.ci_journal.specs.Step.{Run}
 use Rattle.ci_journal.specs.Step.Run.{Empty}
+use Rattle.ci_journal.specs.Tells.{last_of}
 use Rattle.ci_journal.specs.Terms.{Terms}
-use Rattle.ci_core.specs.Core.{Core}
+use Rattle.ci_core.specs.Core.{Core, terms_of}
 use Rattle.ci_core.specs.Fixed.{Fixed, HasFixed}
+use Rattle.ci_core.specs.Opening.{NoneWaits}
+use Rattle.ci_core.proofs.QueueLemmas.{IsQueue-empty, IsQueue-none}
 use Rattle.ci_server.specs.declared.status.Status.{Status}
 use Rattle.ci_server.specs.declared.status.Status.TheVariants.{Done, Usage, ReadFault, WriteFault, JournalFull, TooManyDocuments, OutOfMemory, EndlessLine}
 use Rattle.ci_server.specs.Course.{Course, IsTold, told_of}
 use Rattle.ci_server.specs.Progress.{Ends, FitsLine}
 use Rattle.ci_server.specs.Requests.{requests}
 use Rattle.ci_server.specs.Served.{IsBetween}
-use Rattle.ci_server.specs.Session.{EndsByQuit, AsksFirst, InTurns, EndsWell, IsCrowdedAt, IsFullAt}
+use Rattle.ci_server.specs.Stops.{AreBelowNext}
+use Rattle.ci_server.specs.Session.{EndsByQuit, AsksFirst, InTurns, IsWhole, EndsWell, IsCrowdedAt, IsFullAt}
 use Rattle.ci_server.specs.Turns.Turns.{None as no_turns}
 use Rattle.ci_server.specs.Turns.{Turns}
 use Rattle.ci_server.proofs.ProgressLemmas.{Progress-none, Ends-stop}
@@ -29,26 +31,30 @@ use Rattle.ci_server.proofs.SessionLemmas.{fits, has_now, whole, all_printed, bo
 use Rattle.ci_server.proofs.SourceLemmas.{all_lines, done, ends_at_quit, left_at_quit, taken_at_fault, taken_at_long, endless, read_fault}
 use Rattle.ci_server.proofs.StopLemmas.{StopsIn-starved}
 
+-- nothing was noted or served in a session that found nothing
+below-fresh : (noise : List (List ℕ)) → AreBelowNext (terms_of noise) []
+below-fresh noise = record { latest = λ path. omega arith; served = λ path. omega arith }
+
 -- a catalogue that was just made
-pub IsBetween-fresh : (core : Core) → core.sheet.events ≡ [] → core.numbered ≡ [] → core.refusal ≡ None → IsBetween core
-IsBetween-fresh core fresh none_numbered unrefused = record {
+pub IsBetween-fresh : (core : Core) (noise : List (List ℕ)) → core.terms ≡ terms_of noise → core.sheet.events ≡ [] → core.numbered ≡ [] → core.refusal ≡ None → IsBetween core
+IsBetween-fresh core noise terms fresh none_numbered unrefused = record {
   sound = record {
     unrefused = unrefused;
-    numbered = none_numbered ∙ ap numbered (sym fresh);
+    numbered = none_numbered ∙ ap (numbered_paths (terms_of noise)) (sym fresh) ∙ ap (λ (t : Terms). numbered_paths t core.sheet.events) (sym terms);
     room = rw none_numbered (omega arith);
-    latest = λ path. subst (λ es. latest_number (notices es) path ≤ length (notices es)) (sym fresh) (omega arith);
-    served = λ path. subst (λ es. served_number (numbers_of (completed es)) path ≤ length (notices es)) (sym fresh) (omega arith);
+    below = subst (λ (t : Terms). AreBelowNext t core.sheet.events) (sym terms) (subst (AreBelowNext (terms_of noise)) (sym fresh) (below-fresh noise));
+    plain = ap (λ (t : Terms). t.in_lists) terms;
   };
   within = subst (λ es. journal_bytes es ≤ core.sheet.limit) (sym fresh) (omega arith);
-  replied = λ earlier some below. absurd (let count : length (asked core.sheet.events) ≡ 0 = ap (λ es. length (asked es)) fresh in omega (arith, count, some, below));
-  all_opened = ap unopened fresh;
+  replied = λ earlier some below. absurd (let count : length (requests_in core.sheet.events) ≡ 0 = ap (λ es. length (requests_in es)) fresh in omega (arith, count, some, below));
+  all_opened = subst (NoneWaits core.terms) (sym fresh) (IsQueue-none core.terms [] (IsQueue-empty core.terms));
 }
 
 -- there was no memory for a reader
 pub Ends-unread : (first : Reading) (start : Core) → start.sheet.events ≡ [] → IsBetween start → Ends first start first start OutOfMemory
 Ends-unread first start fresh between =
     Ends-stop first start first first start start OutOfMemory (Progress-none first start fresh between)
-    (StopsIn-starved (FitsLine (ahead first) start.sheet.events) start between.sound (inl refl))
+    (StopsIn-starved (FitsLine start.terms (ahead first) start.sheet.events) start between.sound (inl refl))
 
 abbrev pub course : Fixed → Reading → Reading → Core → Status → Course
 course fixed first now core status = record {
@@ -74,8 +80,8 @@ IsTold-ends first start now core fixed status has ends run within =
     let all = fits first start now core fixed has status ends in
     record {
       run = subst (λ (t : Terms). Run t core.sheet.events) (has_now first start now core fixed has status ends).terms run;
-      turns = all.turns;
-      whole = whole first start now core fixed has status ends;
+      turns = subst (λ (t : Terms). InTurns t core.sheet.events) has.terms all.turns;
+      whole = λ between. subst (λ (t : Terms). IsWhole t core.sheet.events) has.terms (whole first start now core fixed has status ends between);
       lines = all.lines;
       all_lines = λ is. all_lines first start now core (at Done is);
       done = λ is. done first start now core (at Done is);
@@ -106,32 +112,32 @@ IsTold-handed c bytes left reads reads_after written_after writes_after status j
 pub run-idle : (terms : Terms) (journal : List Event) → journal ≡ [] → Run terms journal
 run-idle terms journal none = subst (Run terms) (sym none) Empty
 
-pub turns-idle : (journal : List Event) → journal ≡ [] → InTurns journal
-turns-idle journal none = record { whole = []; turns = ([], no_turns); front = []; events = none; cut = inl refl }
+pub turns-idle : (terms : Terms) (journal : List Event) → journal ≡ [] → InTurns terms journal
+turns-idle terms journal none = record { whole = []; turns = ([], no_turns); front = []; events = none; cut = inl refl }
 
 pub lines-idle : (bytes : Option (List ℕ)) (journal : List Event) → journal ≡ [] → AsksFirst bytes journal
 lines-idle None journal none = subst (λ es. AsksFirst None es) (sym none) tt
-lines-idle (Some all) journal none = (requests all, ap (λ es. asked es ++ requests all) (sym none))
+lines-idle (Some all) journal none = (requests all, ap (λ es. requests_in es ++ requests all) (sym none))
 
 pub printed-idle : (written : Option (List ℕ)) (journal : List Event) → journal ≡ [] → Appends written written (printed journal)
 printed-idle None journal none = tt
 printed-idle (Some bytes) journal none = sym (append-nil bytes) ∙ ap (λ es. bytes ++ printed es) (sym none)
 
 pub quit-idle : (journal : List Event) → journal ≡ [] → EndsByQuit journal → ⊥
-quit-idle journal none quits = let never : None ≡ Some request.Quit = sym (ap (λ es. last_of (asked es)) none) ∙ quits in cc
+quit-idle journal none quits = let never : None ≡ Some request.Quit = sym (ap (λ es. last_of (requests_in es)) none) ∙ quits in cc
 
-pub bounded-idle : (most : ℕ) (journal : List Event) → journal ≡ [] → length (numbered journal) ≤ most
-bounded-idle most journal none = subst (λ es. length (numbered es) ≤ most) (sym none) (omega arith)
+pub bounded-idle : (noise : List (List ℕ)) (most : ℕ) (journal : List Event) → journal ≡ [] → length (numbered_paths (terms_of noise) journal) ≤ most
+bounded-idle noise most journal none = subst (λ es. length (numbered_paths (terms_of noise) es) ≤ most) (sym none) (omega arith)
 
 pub within-idle : (limit : ℕ) (journal : List Event) → journal ≡ [] → journal_bytes journal ≤ limit
 within-idle limit journal none = subst (λ es. journal_bytes es ≤ limit) (sym none) (omega arith)
 
 -- for want of memory
-pub IsTold-idle : (c : Course) → c.journal ≡ [] → c.status ≡ OutOfMemory → c.written_after ≡ c.written → IsTold c
-IsTold-idle c none starves kept = record {
+pub IsTold-idle : (c : Course) (noise : List (List ℕ)) → c.terms ≡ terms_of noise → c.journal ≡ [] → c.status ≡ OutOfMemory → c.written_after ≡ c.written → IsTold c
+IsTold-idle c noise terms none starves kept = record {
   run = run-idle c.terms c.journal none;
-  turns = turns-idle c.journal none;
-  whole = λ _. ([], subst (λ es. Turns es []) (sym none) no_turns);
+  turns = turns-idle c.terms c.journal none;
+  whole = λ _. ([], subst (λ es. Turns c.terms es []) (sym none) no_turns);
   lines = lines-idle c.bytes c.journal none;
   all_lines = λ is. absurd (cc);
   done = λ is. absurd (cc);
@@ -146,7 +152,7 @@ IsTold-idle c none starves kept = record {
   write_fault = λ is. absurd (cc);
   journal_full = λ used more is. absurd (cc);
   crowded = λ is. absurd (cc);
-  bounded = bounded-idle c.most c.journal none;
+  bounded = subst (λ (t : Terms). length (numbered_paths t c.journal) ≤ c.most) (sym terms) (bounded-idle noise c.most c.journal none);
   within = within-idle c.limit c.journal none;
   endless = λ is. absurd (cc);
 }

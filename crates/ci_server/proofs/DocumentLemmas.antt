@@ -1,7 +1,6 @@
 -- The steps of a request that notes a document, as far as they come.
-use Rattle.std.proofs.Common.{arith, ◌≡◌, ◌≤◌, ◌+◌, ◌∙◌, ℕ, false, List, [], ◌∷◌, ◌++◌, length, Ok, Err, Some, None, refl, ap, subst, sym}
+use Rattle.std.proofs.Common.{arith, ◌≡◌, ◌≤◌, ◌+◌, ◌∙◌, ℕ, false, List, [], ◌∷◌, ◌++◌, length, Ok, Err, None, refl, ap, subst, sym}
 use Rattle.std.specs.Prelude.{IsErrOf}
-use Rattle.std.proofs.lemmas.List.{length_push}
 use Rattle.ci_base.specs.declared.numbers.Seq.{Seq}
 use Rattle.ci_change.specs.declared.notice.What.{What}
 use Rattle.ci_change.specs.declared.notice.What.TheVariants.{Changed}
@@ -12,13 +11,15 @@ use Rattle.ci_journal.specs.declared.event.Event.{Event}
 use Rattle.ci_journal.specs.declared.event.Happened.TheVariants.{Put, Said}
 use Rattle.ci_journal.specs.declared.reply.Reply.{Reply}
 use Rattle.ci_journal.specs.declared.request.Request.{Request}
-use Rattle.ci_journal.specs.Completions.{is_numbered}
-use Rattle.ci_journal.specs.Folds.{latest, notices}
+use Rattle.ci_journal.specs.Folds.{is_numbered, latest, next_notice}
 use Rattle.ci_journal.specs.Step.{MayPut}
-use Rattle.ci_journal.proofs.FoldsLemmas.{latest-noted, notices-push}
+use Rattle.ci_journal.specs.Tells.{event}
+use Rattle.ci_journal.specs.Tells.Fate.{Filtered}
+use Rattle.ci_journal.specs.Terms.{Terms}
+use Rattle.ci_journal.proofs.FoldsLemmas.{latest-noted}
 use Rattle.ci_core.specs.declared.core_fault.CoreFault.{CoreFault}
 use Rattle.ci_core.specs.declared.core_fault.CoreFault.TheVariants.{JournalFull, TooManyDocuments}
-use Rattle.ci_core.specs.Changes.{event, noted}
+use Rattle.ci_core.specs.Changes.{noted}
 use Rattle.ci_core.specs.Core.{Core}
 use Rattle.ci_core.specs.Fixed.{KeepsFixed}
 use Rattle.ci_core.specs.Refusals.{IsCrowded}
@@ -26,11 +27,11 @@ use Rattle.ci_core.specs.Steps.{IsUnrefused, Makes}
 use Rattle.ci_server.specs.Served.{ServesSteps}
 use Rattle.ci_server.specs.Stops.{IsSound}
 use Rattle.ci_server.specs.Turns.{AreSteps}
-use Rattle.ci_server.proofs.StepLemmas.{step-filed, step-noted, step-quiet}
+use Rattle.ci_server.proofs.StepLemmas.{next-noted, step-filed, step-noted, step-quiet}
 use Rattle.ci_server.proofs.StepsLemmas.{IsAt, IsAt-none, IsAt-step, steps-serve}
 
 -- the path was noted first
-pub noted-at : (old a : Core) (path : List ℕ) (seq : Seq) (what : What) → IsSound old → seq.0 ≡ length (notices old.sheet.events) + 1 → Makes old a (noted 0 path seq.0 what)
+pub noted-at : (old a : Core) (path : List ℕ) (seq : Seq) (what : What) → IsSound old → seq.0 ≡ next_notice old.terms old.sheet.events → Makes old a (noted 0 path seq.0 what)
     → IsUnrefused old a → KeepsFixed old a → (old.refusal ≡ None → is_numbered old.numbered path ≡ false → old.most ≤ length old.numbered → IsErrOf {T = Seq} {E = CoreFault} (Ok seq) TooManyDocuments)
     → IsAt old a (noted 0 path seq.0 what ∷ [])
 noted-at old a path seq what sound next makes unrefused keeps crowded =
@@ -49,25 +50,29 @@ uncrowded-note core path number what by fault none crowded used more full crowd 
 
 -- the reply came last
 pub replied-serves : (old a new : Core) (id : ℕ) (request : Request) (reply : Reply) (steps : List Event) → IsAt old a steps → Makes a new (event 0 (Said id reply)) → IsUnrefused a new → KeepsFixed a new
-    → AreSteps old.sheet.events id request (steps ++ event 0 (Said id reply) ∷ []) → ServesSteps old new id request
+    → AreSteps old.terms old.sheet.events id request (steps ++ event 0 (Said id reply) ∷ []) → ServesSteps old new id request
 replied-serves old a new id request reply steps at makes unrefused keeps made =
-    steps-serve old id request a new steps (event 0 (Said id reply)) at (step-quiet a new (event 0 (Said id reply)) at.sound makes unrefused keeps refl (λ _. refl)) made
+    steps-serve old id request a new steps (event 0 (Said id reply)) at (step-quiet a new (event 0 (Said id reply)) at.sound makes unrefused keeps refl refl) made
+
+-- behind a noting, its number is below the next
+pub low-noted : (old a : Core) (path : List ℕ) (seq : Seq) (what : What) → seq.0 ≡ next_notice old.terms old.sheet.events → IsAt old a (noted 0 path seq.0 what ∷ []) → next_notice a.terms a.sheet.events ≡ seq.0 + 1
+low-noted old a path seq what next at =
+    ap (λ (t : Terms). next_notice t a.sheet.events) at.remains.told.terms ∙ ap (next_notice old.terms) at.events ∙ next-noted old.terms old.sheet.events path seq what next
 
 -- behind the noting of a change, its text may be put
-module _ (old a : Core) (path text : List ℕ) (seq : Seq) (next : seq.0 ≡ length (notices old.sheet.events) + 1) (at : IsAt old a (noted 0 path seq.0 Changed ∷ [])) where
-  pub MayPut-at : MayPut a.sheet.events 0 (record { path = path; seq = seq; what = Changed })
+module _ (old a : Core) (path text : List ℕ) (seq : Seq) (next : seq.0 ≡ next_notice old.terms old.sheet.events) (at : IsAt old a (noted 0 path seq.0 Changed ∷ [])) where
+  pub MayPut-at : MayPut a.terms a.sheet.events 0 (record { path = path; seq = seq; what = Changed })
   MayPut-at = record {
     foreground = refl;
-    current = ap (λ es. latest es path) at.events ∙ latest-noted old.sheet.events 0 (record { path = path; seq = seq; what = Changed });
+    current = ap (λ (t : Terms). latest t a.sheet.events path) at.remains.told.terms ∙ ap (λ es. latest old.terms es path) at.events
+        ∙ latest-noted old.terms old.sheet.events 0 (record { path = path; seq = seq; what = Changed });
   }
 
   pub put-at : (b : Core) → Makes a b (event 0 (Put path seq (plain path text))) → IsUnrefused a b → KeepsFixed a b → IsAt old b (noted 0 path seq.0 Changed ∷ event 0 (Put path seq (plain path text)) ∷ [])
   put-at b makes unrefused keeps =
       let e = event 0 (Put path seq (plain path text)) in
-      let count : length (notices a.sheet.events) ≡ length (notices old.sheet.events) + 1 =
-      ap (λ es. length (notices es)) at.events ∙ ap length (notices-push old.sheet.events (noted 0 path seq.0 Changed)) ∙ length_push (notices old.sheet.events) (record { path = path; seq = seq; what = Changed }) in
       IsAt-step old a b (noted 0 path seq.0 Changed ∷ []) e at
-      (step-filed a b e at.sound makes unrefused keeps refl (record { path = path; seq = seq; filtered = Some (plain path text) }) (λ _. refl) (omega (arith, count, next)))
+      (step-filed a b e at.sound makes unrefused keeps refl (record { path = path; seq = seq; fate = Filtered (plain path text) }) path seq refl refl (omega (arith, low-noted old a path seq Changed next at)))
 
 -- a line's text makes a small transcript
 pub plain-small : (path text : List ℕ) → length text ≤ LINE_BYTES → text_bytes (plain path text) ≤ 1048576

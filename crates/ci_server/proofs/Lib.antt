@@ -1,10 +1,13 @@
 pub mod StepLemmas
 pub mod StopLemmas
+pub mod FrontLemmas
+pub mod NotingLemmas
 pub mod StepsLemmas
 pub mod DeletionLemmas
 pub mod DocumentLemmas
 pub mod QueryLemmas
 pub mod TurnLemmas
+pub mod RightLemmas
 pub mod LineLemmas
 pub mod ProgressLemmas
 pub mod SourceLemmas

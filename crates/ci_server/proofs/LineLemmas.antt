@@ -10,16 +10,15 @@ use Rattle.ci_io.specs.Lines.{HasNoFeed, raw_lines}
 use Rattle.ci_io.specs.ReadLine as reader
 use Rattle.ci_io.specs.Reading.{Reading, BeginsTooLong, IsBeforeEnd, IsEndless, IsShort, Loses, TakesAll, TakesFed, TakesLine, ahead}
 use Rattle.ci_keys.proofs.OneForm.{Contains-cons_cases, Contains-first, Contains-later}
-use Rattle.ci_journal.specs.Folds.{asked}
-use Rattle.ci_journal.specs.Requests.{request_of}
-use Rattle.ci_journal.specs.Requests as journal
+use Rattle.ci_journal.specs.Folds.{requests_in}
+use Rattle.ci_journal.specs.Requests.{is_quit, request_of}
 use Rattle.ci_core.specs.declared.core_fault.CoreFault.{CoreFault}
 use Rattle.ci_core.specs.declared.core_fault.CoreFault.TheVariants as fault
 use Rattle.ci_core.specs.Core.{Core}
 use Rattle.ci_server.specs.declared.status.Status.{Status}
 use Rattle.ci_server.specs.declared.status.Status.TheVariants.{Done, Usage, ReadFault, WriteFault, JournalFull, TooManyDocuments, OutOfMemory, EndlessLine}
 use Rattle.ci_server.specs.Progress.{FitsLine, GoesOn, ServesLine, StopsAt}
-use Rattle.ci_server.specs.Requests.{Reads, Feeds, before_endless, is_end, is_quit, line_request, requests_behind, through_quit, with_feed}
+use Rattle.ci_server.specs.Requests.{Reads, Feeds, before_endless, is_end, line_request, requests_behind, through_quit, with_feed}
 use Rattle.ci_server.specs.Served.{FitsTurn, ServesTurn, StopsTurn}
 use Rattle.ci_server.specs.Status.{refusal_told, status_of_read}
 use Rattle.ci_server.specs.Stops.{IsSound, StopsIn}
@@ -56,15 +55,10 @@ fed_given before now (line.Text text) some feeds = feeds
 fed_given before now line.Long some feeds = feeds
 fed_given before now line.End some feeds = absurd (cc)
 
-pub IsShort-given : (given : Line) → IsShort given → journal.IsShort given
-IsShort-given (line.Text text) short = short
-IsShort-given line.Long short = tt
-IsShort-given line.End short = tt
-
 -- a line was read
 module _ (before now : Reading) (given : Line) (some : is_end given ≡ false) (gives : reader.Gives before now given) (short : IsShort given) (old new : Core) where
   pub GoesOn-served : (now.ended ≡ false → reader.Feeds before now given) → (now.ended ≡ true → TakesAll before now) → (before.ended ≡ true → now.ended ≡ true) → now.faults ≡ before.faults
-      → ServesTurn old new (length (asked old.sheet.events) + 1) (request_of given) → (quits : Bool) → quits ≡ is_quit (request_of given) → GoesOn before now old new (not quits)
+      → ServesTurn old new (length (requests_in old.sheet.events) + 1) (request_of given) → (quits : Bool) → quits ≡ is_quit (request_of given) → GoesOn before now old new (not quits)
   GoesOn-served feeds takes_all stays_ended faults serves quits quits_is = by quits (sym quits_is)
     where
       line_served : (quit : Bool) → is_quit (request_of given) ≡ quit → ServesLine before now old new quit
@@ -85,25 +79,25 @@ module _ (before now : Reading) (given : Line) (some : is_end given ≡ false) (
       by false is = line_served false is
 
   -- and its request's turn was cut off
-  pub StopsIn-line : (refusal : CoreFault) → StopsTurn old new (length (asked old.sheet.events) + 1) (request_of given) refusal → StopsIn (FitsLine (ahead before) old.sheet.events) old new refusal
+  pub StopsIn-line : (refusal : CoreFault) → StopsTurn old new (length (requests_in old.sheet.events) + 1) (request_of given) refusal → StopsIn (FitsLine old.terms (ahead before) old.sheet.events) old new refusal
   StopsIn-line refusal stops =
-      StopsIn-map (FitsTurn old.sheet.events (length (asked old.sheet.events) + 1) (request_of given)) (FitsLine (ahead before) old.sheet.events)
+      StopsIn-map (FitsTurn old.terms old.sheet.events (length (requests_in old.sheet.events) + 1) (request_of given)) (FitsLine old.terms (ahead before) old.sheet.events)
       (λ journal fits. inr (request_of given, ahead now, Reads-line (ahead before) (ahead now) given (takes_given before now given some gives), (given, short, refl), fits)) old old new refusal (Remains-refl old) stops
 
 -- the status tells the refusal
-pub StopsAt-step : (before now : Reading) (old new : Core) (refusal : CoreFault) (status : Status) → refusal_told status ≡ Some refusal → StopsIn (FitsLine (ahead before) old.sheet.events) old new refusal → StopsAt before now old new status
+pub StopsAt-step : (before now : Reading) (old new : Core) (refusal : CoreFault) (status : Status) → refusal_told status ≡ Some refusal → StopsIn (FitsLine old.terms (ahead before) old.sheet.events) old new refusal → StopsAt before now old new status
 StopsAt-step before now old new refusal Done told stops = absurd (cc)
 StopsAt-step before now old new refusal Usage told stops = absurd (cc)
 StopsAt-step before now old new refusal ReadFault told stops = absurd (cc)
 StopsAt-step before now old new refusal EndlessLine told stops = absurd (cc)
 StopsAt-step before now old new refusal WriteFault told stops =
-    let same : refusal ≡ fault.WriteFault = cc in subst (StopsIn (FitsLine (ahead before) old.sheet.events) old new) same stops
+    let same : refusal ≡ fault.WriteFault = cc in subst (StopsIn (FitsLine old.terms (ahead before) old.sheet.events) old new) same stops
 StopsAt-step before now old new refusal (JournalFull used more) told stops =
-    let same : refusal ≡ fault.JournalFull used more = cc in subst (StopsIn (FitsLine (ahead before) old.sheet.events) old new) same stops
+    let same : refusal ≡ fault.JournalFull used more = cc in subst (StopsIn (FitsLine old.terms (ahead before) old.sheet.events) old new) same stops
 StopsAt-step before now old new refusal TooManyDocuments told stops =
-    let same : refusal ≡ fault.TooManyDocuments = cc in subst (StopsIn (FitsLine (ahead before) old.sheet.events) old new) same stops
+    let same : refusal ≡ fault.TooManyDocuments = cc in subst (StopsIn (FitsLine old.terms (ahead before) old.sheet.events) old new) same stops
 StopsAt-step before now old new refusal OutOfMemory told stops =
-    let same : refusal ≡ fault.OutOfMemory = cc in subst (StopsIn (FitsLine (ahead before) old.sheet.events) old new) same stops
+    let same : refusal ≡ fault.OutOfMemory = cc in subst (StopsIn (FitsLine old.terms (ahead before) old.sheet.events) old new) same stops
 
 -- where neither has a line feed, both together have none
 HasNoFeed-append : (xs ys : List ℕ) → HasNoFeed xs → HasNoFeed ys → HasNoFeed (xs ++ ys)
@@ -127,4 +121,4 @@ StopsAt-unread before now core read.Failed sound cause =
     (refl, record { loses = cause.loses; begun = HasNoFeed-append cause.loses.lost now.held cause.loses.whole (cause.held refl); before_end = (cause.failed_before_end refl).0 }, cause.rose refl)
 StopsAt-unread before now core read.Endless sound cause =
     (refl, record { loses = (cause.endless refl).loses; begun = (cause.endless refl).whole; before_end = (cause.endless_before_end refl).0 }, cause.too_long refl)
-StopsAt-unread before now core read.OutOfMemory sound cause = StopsIn-starved (FitsLine (ahead before) core.sheet.events) core sound (inl refl)
+StopsAt-unread before now core read.OutOfMemory sound cause = StopsIn-starved (FitsLine core.terms (ahead before) core.sheet.events) core sound (inl refl)

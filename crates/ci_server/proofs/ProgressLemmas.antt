@@ -1,7 +1,7 @@
 -- A session goes on, line by line, until it ends.
-use Rattle.std.proofs.Common.{arith, ◌≡◌, ◌∙◌, ◌+◌, ◌-◌, ℕ, Bool, true, false, List, [], ◌∷◌, ◌++◌, ◌⊎◌, Option, Some, None, length, map, flat_map, inl, inr, ⊎_elim, refl, ap, sym, subst, append_assoc, append-nil}
+use Rattle.std.proofs.Common.{◌≡◌, ◌∙◌, ◌+◌, ℕ, Bool, true, false, List, [], ◌∷◌, ◌++◌, ◌⊎◌, Option, Some, None, length, map, flat_map, inl, inr, ⊎_elim, refl, ap, sym, subst, append_assoc, append-nil}
 use Rattle.std.specs.List.{AllByRecursion}
-use Rattle.std.proofs.lemmas.List.{length_push, map-append}
+use Rattle.std.proofs.lemmas.List.{map-append}
 use Rattle.std.proofs.lemmas.Grind.{flat_map-append}
 use Rattle.ci_io.specs.Lines.{HasNoFeed}
 use Rattle.ci_io.specs.Reading.{Reading, ahead}
@@ -9,25 +9,27 @@ use Rattle.ci_journal.specs.declared.event.Event.{Event}
 use Rattle.ci_journal.specs.declared.event.Happened.TheVariants.{Asked}
 use Rattle.ci_journal.specs.declared.request.Request.{Request}
 use Rattle.ci_journal.specs.declared.request.Request.TheVariants as asking
-use Rattle.ci_journal.specs.Folds.{asked, last_of}
-use Rattle.ci_journal.proofs.FoldsLemmas.{slice_get-push}
+use Rattle.ci_journal.specs.Folds.{requests_in}
+use Rattle.ci_journal.specs.Requests.{is_quit}
+use Rattle.ci_journal.specs.Tells.{event}
+use Rattle.ci_journal.specs.Terms.{Terms}
+use Rattle.ci_journal.proofs.FoldsLemmas.{last_of-push}
 use Rattle.ci_core.specs.declared.core_fault.CoreFault.{CoreFault}
 use Rattle.ci_core.specs.declared.core_fault.CoreFault.TheVariants as fault
-use Rattle.ci_core.specs.Changes.{event}
 use Rattle.ci_core.specs.Core.{Core}
 use Rattle.ci_server.specs.declared.status.Status.{Status}
 use Rattle.ci_server.specs.declared.status.Status.TheVariants.{Done, Usage, ReadFault, WriteFault, JournalFull, TooManyDocuments, OutOfMemory, EndlessLine}
 use Rattle.ci_server.specs.Progress.{Ends, FindsEnd, FitsLine, FitsSession, Progress, ServesLine, StopsAt}
-use Rattle.ci_server.specs.Requests.{IsOfLine, Reads, Feeds, is_quit, requests, requests_behind, line_request, with_feed}
+use Rattle.ci_server.specs.Requests.{IsOfLine, Reads, Feeds, requests, requests_behind, line_request, with_feed}
 use Rattle.ci_server.specs.Served.{IsBetween}
 use Rattle.ci_server.specs.Session.{AsksFirst}
 use Rattle.ci_server.specs.Stops.{StopsIn}
-use Rattle.ci_server.specs.Turns.{IsTurnFront, Turns}
+use Rattle.ci_server.specs.Turns.{IsTurn, IsTurnFront, Turns}
 use Rattle.ci_server.specs.Turns.Turns.{None as no_turns, Turn}
 use Rattle.ci_server.proofs.StepLemmas.{Remains-refl, Remains-trans}
-use Rattle.ci_server.proofs.StepsLemmas.{asked-append}
+use Rattle.ci_server.proofs.StepsLemmas.{requests_in-append}
 use Rattle.ci_server.proofs.StopLemmas.{StopsIn-map}
-use Rattle.ci_server.proofs.TurnLemmas.{asked-steps}
+use Rattle.ci_server.proofs.TurnLemmas.{asked-first, asked-steps}
 
 Reads-none : (told : Option (List ℕ)) → Reads told told [] false
 Reads-none None = tt
@@ -70,18 +72,23 @@ only_quit (asking.Changed path) is = absurd (cc)
 only_quit (asking.Deleted path) is = absurd (cc)
 only_quit (asking.Put path text) is = absurd (cc)
 only_quit (asking.Query text) is = absurd (cc)
+only_quit asking.Filter is = absurd (cc)
+only_quit asking.Shadow is = absurd (cc)
+only_quit asking.Master is = absurd (cc)
+only_quit asking.Step is = absurd (cc)
+only_quit asking.Scan is = absurd (cc)
 only_quit asking.Pending is = absurd (cc)
+only_quit asking.Unfiltered is = absurd (cc)
+only_quit asking.Status is = absurd (cc)
+only_quit (asking.Load seed count) is = absurd (cc)
 only_quit asking.Wait is = absurd (cc)
 only_quit asking.Bad is = absurd (cc)
 only_quit asking.Long is = absurd (cc)
 
-last_of-push : (xs : List Request) (x : Request) → last_of (xs ++ x ∷ []) ≡ Some x
-last_of-push xs x = let last : length (xs ++ x ∷ []) - 1 ≡ length xs = omega (arith, length_push xs x) in rw last (slice_get-push xs x)
-
 pub Progress-none : (first : Reading) (start : Core) → start.sheet.events ≡ [] → IsBetween start → Progress first start first start false
 Progress-none first start fresh between = record {
   served = [];
-  turns = subst (λ es. Turns es []) (sym fresh) no_turns;
+  turns = subst (λ es. Turns start.terms es []) (sym fresh) no_turns;
   of_lines = tt;
   remains = Remains-refl start;
   between = between;
@@ -96,8 +103,9 @@ Progress-none first start fresh between = record {
 pub Progress-line : (first : Reading) (start : Core) (before : Reading) (mid : Core) (now : Reading) (core : Core) (quit : Bool) → Progress first start before mid false → ServesLine before now mid core quit → Progress first start now core quit
 Progress-line first start before mid now core quit progress served_line = record {
   served = progress.served ++ served_line.request ∷ [];
-  turns = subst (λ es. Turns es (progress.served ++ served_line.request ∷ [])) (sym served_line.serves.events_are)
-      (Turn mid.sheet.events progress.served (length (asked mid.sheet.events) + 1) served_line.request served_line.serves.events progress.turns served_line.serves.turn);
+  turns = subst (λ es. Turns start.terms es (progress.served ++ served_line.request ∷ [])) (sym served_line.serves.events_are)
+      (Turn mid.sheet.events progress.served (length (requests_in mid.sheet.events) + 1) served_line.request served_line.serves.events progress.turns
+      (subst (λ (t : Terms). IsTurn t mid.sheet.events (length (requests_in mid.sheet.events) + 1) served_line.request served_line.serves.events) progress.remains.told.terms served_line.serves.turn));
   of_lines = All-append IsOfLine progress.served (served_line.request ∷ []) progress.of_lines (served_line.of_line, tt);
   remains = Remains-trans start mid core progress.remains served_line.serves.remains;
   between = served_line.serves.between;
@@ -116,51 +124,45 @@ Progress-line first start before mid now core quit progress served_line = record
 }
 
 -- whole turns ask just their requests
-pub asked-turns : (events : List Event) (served : List Request) → Turns events served → asked events ≡ served
-asked-turns _ _ no_turns = refl
-asked-turns _ _ (Turn journal served id request events turns turn) =
-    asked-append journal events ∙ ap (λ rs. rs ++ asked events) (asked-turns journal served turns) ∙ ap (λ rs. served ++ rs) one
+pub asked-turns : (terms : Terms) (events : List Event) (served : List Request) → Turns terms events served → requests_in events ≡ served
+asked-turns terms _ _ no_turns = refl
+asked-turns terms _ _ (Turn journal served id request events turns turn) =
+    requests_in-append journal events ∙ ap (λ rs. rs ++ requests_in events) (asked-turns terms journal served turns) ∙ ap (λ rs. served ++ rs) one
   where
-    one : asked events ≡ request ∷ []
-    one = ap asked turn.events_are ∙ ap (λ rs. request ∷ rs) (asked-steps (journal ++ event 0 (Asked id request) ∷ []) id request turn.steps turn.made)
+    one : requests_in events ≡ request ∷ []
+    one = ap requests_in turn.events_are ∙ ap (λ rs. request ∷ rs) (asked-steps terms (journal ++ event 0 (Asked id request) ∷ []) id request turn.steps turn.made)
 
 -- whole turns of the lines that were read
-pub FitsSession-whole : (all left : Option (List ℕ)) (quit : Bool) (journal : List Event) (served : List Request) → Turns journal served → AllByRecursion IsOfLine served → Reads all left served quit → FitsSession all journal
-FitsSession-whole all left quit journal served turns of_lines reads = record {
+pub FitsSession-whole : (terms : Terms) (all left : Option (List ℕ)) (quit : Bool) (journal : List Event) (served : List Request) → Turns terms journal served → AllByRecursion IsOfLine served → Reads all left served quit → FitsSession terms all journal
+FitsSession-whole terms all left quit journal served turns of_lines reads = record {
   turns = record { whole = journal; turns = (served, turns); front = []; events = sym (append-nil journal); cut = inl refl };
   lines = by all left reads;
 }
   where
     by : (all left : Option (List ℕ)) → Reads all left served quit → AsksFirst all journal
-    by None left reads = subst (λ rs. AllByRecursion IsOfLine rs) (sym (asked-turns journal served turns)) of_lines
+    by None left reads = subst (λ rs. AllByRecursion IsOfLine rs) (sym (asked-turns terms journal served turns)) of_lines
     by (Some all) None reads = absurd reads
-    by (Some all) (Some rest) reads = (requests_behind quit rest, reads ∙ ap (λ rs. rs ++ requests_behind quit rest) (sym (asked-turns journal served turns)))
-
-none_front : (xs ys : List Request) → xs ++ ys ≡ [] → xs ≡ []
-none_front [] ys e = refl
-none_front (x ∷ xs) ys e = absurd (cc)
+    by (Some all) (Some rest) reads = (requests_behind quit rest, reads ∙ ap (λ rs. rs ++ requests_behind quit rest) (sym (asked-turns terms journal served turns)))
 
 -- the first events of a turn ask its request, or nothing yet
-asked-front : (journal : List Event) (id : ℕ) (request : Request) (front : List Event) → IsTurnFront journal id request front → (asked front ≡ []) ⊎ (asked front ≡ request ∷ [])
-asked-front journal id request front fits =
-    ⊎_elim (λ none. inl (ap asked none))
-    (λ begun. inr (ap asked begun.2 ∙ ap (λ rs. request ∷ rs)
-    (⊎_elim (λ none. ap asked none)
-    (λ made. none_front (asked begun.0) (asked begun.1.rest) (sym (asked-append begun.0 begun.1.rest) ∙ asked-steps (journal ++ event 0 (Asked id request) ∷ []) id request (begun.0 ++ begun.1.rest) made)) begun.1.made))) fits
+asked-front : (terms : Terms) (journal : List Event) (id : ℕ) (request : Request) (front : List Event) → IsTurnFront terms journal id request front → (requests_in front ≡ []) ⊎ (requests_in front ≡ request ∷ [])
+asked-front terms journal id request front fits =
+    ⊎_elim (λ none. inl (ap requests_in none))
+    (λ begun. inr (ap requests_in begun.2 ∙ ap (λ rs. request ∷ rs) (asked-first terms (journal ++ event 0 (Asked id request) ∷ []) id request begun.0 begun.1))) fits
 
 -- and behind them the first events of the next line's turn
-FitsSession-line : (all left : Option (List ℕ)) (before : List Event) (served : List Request) → Turns before served → AllByRecursion IsOfLine served → Reads all left served false → (journal : List Event) → FitsLine left before journal → FitsSession all journal
-FitsSession-line all left before served turns of_lines reads journal fits =
-    ⊎_elim (λ same. subst (FitsSession all) (sym same) (FitsSession-whole all left false before served turns of_lines reads))
-    (λ begun. let id = length (asked before) + 1 in
+FitsSession-line : (terms : Terms) (all left : Option (List ℕ)) (before : List Event) (served : List Request) → Turns terms before served → AllByRecursion IsOfLine served → Reads all left served false → (journal : List Event) → FitsLine terms left before journal → FitsSession terms all journal
+FitsSession-line terms all left before served turns of_lines reads journal fits =
+    ⊎_elim (λ same. subst (FitsSession terms all) (sym same) (FitsSession-whole terms all left false before served turns of_lines reads))
+    (λ begun. let id = length (requests_in before) + 1 in
     record {
       turns = record { whole = before; turns = (served, turns); front = begun.4.0; events = begun.4.2; cut = inr (id, begun.0, begun.4.1) };
       lines = by all left begun.1 begun.0 begun.4.0 begun.3 reads begun.2
-          (ap asked begun.4.2 ∙ asked-append before begun.4.0 ∙ ap (λ rs. rs ++ asked begun.4.0) (asked-turns before served turns)) (asked-front before id begun.0 begun.4.0 begun.4.1);
+          (ap requests_in begun.4.2 ∙ requests_in-append before begun.4.0 ∙ ap (λ rs. rs ++ requests_in begun.4.0) (asked-turns terms before served turns)) (asked-front terms before id begun.0 begun.4.0 begun.4.1);
     }) fits
   where
-    by : (all left rest : Option (List ℕ)) (next : Request) (front : List Event) → IsOfLine next → Reads all left served false → Reads left rest (next ∷ []) (is_quit next) → asked journal ≡ served ++ asked front
-        → (asked front ≡ []) ⊎ (asked front ≡ next ∷ []) → AsksFirst all journal
+    by : (all left rest : Option (List ℕ)) (next : Request) (front : List Event) → IsOfLine next → Reads all left served false → Reads left rest (next ∷ []) (is_quit next) → requests_in journal ≡ served ++ requests_in front
+        → (requests_in front ≡ []) ⊎ (requests_in front ≡ next ∷ []) → AsksFirst all journal
     by None left rest next front of_line reads line asks either =
         ⊎_elim (λ none. subst (λ rs. AllByRecursion IsOfLine rs) (sym (asks ∙ ap (λ rs. served ++ rs) none ∙ append-nil served)) of_lines)
         (λ one. subst (λ rs. AllByRecursion IsOfLine rs) (sym (asks ∙ ap (λ rs. served ++ rs) one)) (All-append IsOfLine served (next ∷ []) of_lines (of_line, tt))) either
@@ -174,11 +176,12 @@ FitsSession-line all left before served turns of_lines reads journal fits =
               ∙ ap (λ rs. rs ++ requests_behind (is_quit next) rest) (sym (asks ∙ ap (λ rs. served ++ rs) one)),
         )) either
 
-in_session : (first : Reading) (start : Core) (before : Reading) (mid core : Core) (refusal : CoreFault) → Progress first start before mid false → StopsIn (FitsLine (ahead before) mid.sheet.events) mid core refusal
-    → StopsIn (FitsSession (ahead first)) start core refusal
+in_session : (first : Reading) (start : Core) (before : Reading) (mid core : Core) (refusal : CoreFault) → Progress first start before mid false → StopsIn (FitsLine mid.terms (ahead before) mid.sheet.events) mid core refusal
+    → StopsIn (FitsSession start.terms (ahead first)) start core refusal
 in_session first start before mid core refusal progress stops =
-    StopsIn-map (FitsLine (ahead before) mid.sheet.events) (FitsSession (ahead first))
-    (FitsSession-line (ahead first) (ahead before) mid.sheet.events progress.served progress.turns progress.of_lines progress.reads) start mid core refusal progress.remains stops
+    StopsIn-map (FitsLine mid.terms (ahead before) mid.sheet.events) (FitsSession start.terms (ahead first))
+    (λ journal fits. FitsSession-line start.terms (ahead first) (ahead before) mid.sheet.events progress.served progress.turns progress.of_lines progress.reads journal
+    (subst (λ (t : Terms). FitsLine t (ahead before) mid.sheet.events journal) progress.remains.told.terms fits)) start mid core refusal progress.remains stops
 
 -- the source had ended behind the last line
 pub Ends-over : (first : Reading) (start : Core) (before now : Reading) (mid core : Core) → Progress first start before mid false → FindsEnd before now mid core → Ends first start now core Done

@@ -3,13 +3,14 @@ use Rattle.std.proofs.Common.{arith, ◌≡◌, ◌≢◌, ◌∙◌, ◌<◌, �
 use Rattle.ci_io.specs.Reading.{Reading, ahead}
 use Rattle.ci_journal.specs.declared.event.Event.{Event}
 use Rattle.ci_journal.specs.declared.event.Happened.{Happened}
-use Rattle.ci_journal.specs.declared.event.Happened.TheVariants.{Asked, Noted, Put, Erased, Begun, BatchDone, Opened, Answered, Said}
+use Rattle.ci_journal.specs.declared.event.Happened.TheVariants.{Asked, Noted, Put, Erased, Started, StartFailed, DaemonLost, Begun, BatchDone, BatchDied, Returned, Shadowed, MasterBegun, MasterStep, MasterEnded, Opened, Answered, Said}
 use Rattle.ci_journal.specs.Bytes.{journal_bytes}
-use Rattle.ci_journal.specs.Completions.{is_numbered, numbered}
-use Rattle.ci_journal.specs.Folds.{notice_in}
-use Rattle.ci_journal.specs.Printed.{lines_of}
+use Rattle.ci_journal.specs.Folds.{is_numbered, numbered_paths}
+use Rattle.ci_journal.specs.Printed.{PrintsCut, lines_of}
 use Rattle.ci_journal.specs.Step.{May}
+use Rattle.ci_journal.specs.Tells.{tells}
 use Rattle.ci_journal.specs.Terms.{Terms}
+use Rattle.ci_journal.proofs.FoldsLemmas.{numbered_paths-push}
 use Rattle.ci_core.specs.declared.core_fault.CoreFault.{CoreFault}
 use Rattle.ci_core.specs.declared.core_fault.CoreFault.TheVariants as refusal
 use Rattle.ci_core.specs.Core.{Core}
@@ -17,32 +18,41 @@ use Rattle.ci_core.specs.Fixed.{Fixed, HasFixed, PrintsAfter, PrintsAll}
 use Rattle.ci_server.specs.declared.status.Status.{Status}
 use Rattle.ci_server.specs.declared.status.Status.TheVariants.{Done, Usage, ReadFault, WriteFault, JournalFull, TooManyDocuments, OutOfMemory, EndlessLine}
 use Rattle.ci_server.specs.Progress.{Ends, FitsSession, Progress}
-use Rattle.ci_server.specs.Session.{AsksFirst, ComesNext, EndsBetween, InTurns, IsCrowdedAt, IsFullAt, IsWhole, PrintsCut, Told}
+use Rattle.ci_server.specs.Session.{AsksFirst, ComesNext, EndsBetween, InTurns, IsCrowdedAt, IsFullAt, IsWhole, Told}
 use Rattle.ci_server.specs.Stops.{IsNext, StopsIn}
 use Rattle.ci_server.proofs.ProgressLemmas.{FitsSession-whole}
-use Rattle.ci_server.proofs.StepLemmas.{numbered-push}
 use Rattle.ci_server.proofs.StopLemmas.{Fits-stops}
 
 -- what prints lines is no notice
-no_notice : (what : Happened) → 0 < length (lines_of what) → notice_in what ≡ None
-no_notice (Asked id request) some = refl
+no_notice : (what : Happened) → 0 < length (lines_of what) → (tells what).notice ≡ None
 no_notice (Noted notice) some = absurd (omega arith)
+no_notice (Asked id request) some = refl
 no_notice (Put path seq transcript) some = refl
 no_notice (Erased path seq) some = refl
+no_notice Started some = refl
+no_notice StartFailed some = refl
+no_notice DaemonLost some = refl
 no_notice (Begun batch) some = refl
 no_notice (BatchDone number outcomes) some = refl
+no_notice (BatchDied number charged) some = refl
+no_notice (Returned number) some = refl
+no_notice Shadowed some = refl
+no_notice MasterBegun some = refl
+no_notice (MasterStep split) some = refl
+no_notice MasterEnded some = refl
 no_notice (Opened id) some = refl
 no_notice (Answered id at paths) some = refl
 no_notice (Said id reply) some = refl
 
 -- no more paths are noted than were when the step was refused
-same_numbered : (Fits : List Event → Type 0) (start core : Core) (fault : CoreFault) (stops : StopsIn Fits start core fault) → numbered core.sheet.events ≡ numbered stops.mid.sheet.events
-same_numbered Fits start core refusal.TooManyDocuments stops = ap numbered stops.halts.3
-same_numbered Fits start core (refusal.JournalFull used more) stops = ap numbered stops.halts.2.stays.events
-same_numbered Fits start core refusal.OutOfMemory stops = ap numbered stops.halts
-same_numbered Fits start core refusal.WriteFault stops =
-    ap numbered stops.halts.3 ∙ numbered-push stops.mid.sheet.events stops.halts.0 ∙ rw (no_notice stops.halts.0.what stops.halts.2) refl
-same_numbered Fits start core refusal.Ended stops = absurd stops.halts
+same_numbered : (terms : Terms) (Fits : List Event → Type 0) (start core : Core) (fault : CoreFault) (stops : StopsIn Fits start core fault)
+    → numbered_paths terms core.sheet.events ≡ numbered_paths terms stops.mid.sheet.events
+same_numbered terms Fits start core refusal.TooManyDocuments stops = ap (numbered_paths terms) stops.halts.3
+same_numbered terms Fits start core (refusal.JournalFull used more) stops = ap (numbered_paths terms) stops.halts.2.stays.events
+same_numbered terms Fits start core refusal.OutOfMemory stops = ap (numbered_paths terms) stops.halts
+same_numbered terms Fits start core refusal.WriteFault stops =
+    ap (numbered_paths terms) stops.halts.3 ∙ numbered_paths-push terms stops.mid.sheet.events stops.halts.0 ∙ rw (no_notice stops.halts.0.what stops.halts.2) refl
+same_numbered terms Fits start core refusal.Ended stops = absurd stops.halts
 
 -- what a session with this fixed part was told at its start
 abbrev pub told_at_start : Fixed → Reading → Told
@@ -51,10 +61,10 @@ told_at_start fixed first = record { terms = fixed.terms; limit = fixed.limit; m
 module _ (first : Reading) (start : Core) (now : Reading) (core : Core) (fixed : Fixed) (has : HasFixed fixed start) where
   -- ---- a session that ended between two turns
   module _ (at : Reading) (quit : Bool) (progress : Progress first start at core quit) where
-    fits-whole : FitsSession (ahead first) core.sheet.events
-    fits-whole = FitsSession-whole (ahead first) (ahead at) quit core.sheet.events progress.served progress.turns progress.of_lines progress.reads
+    fits-whole : FitsSession start.terms (ahead first) core.sheet.events
+    fits-whole = FitsSession-whole start.terms (ahead first) (ahead at) quit core.sheet.events progress.served progress.turns progress.of_lines progress.reads
 
-    whole-whole : IsWhole core.sheet.events
+    whole-whole : IsWhole start.terms core.sheet.events
     whole-whole = (progress.served, progress.turns)
 
     has-whole : HasFixed fixed core
@@ -63,11 +73,14 @@ module _ (first : Reading) (start : Core) (now : Reading) (core : Core) (fixed :
     prints-whole : PrintsAll fixed core.sheet
     prints-whole = subst (PrintsAfter fixed core.sheet) progress.between.sound.unrefused has-whole.prints
 
-    bounded-whole : length (numbered core.sheet.events) ≤ fixed.most
-    bounded-whole = let sound = progress.between.sound in omega (arith, sound.room, ap length sound.numbered, has-whole.most)
+    bounded-whole : length (numbered_paths fixed.terms core.sheet.events) ≤ fixed.most
+    bounded-whole =
+        let sound = progress.between.sound in
+        let same : core.numbered ≡ numbered_paths fixed.terms core.sheet.events = sound.numbered ∙ ap (λ (t : Terms). numbered_paths t core.sheet.events) has-whole.terms in
+        omega (arith, sound.room, ap length same, has-whole.most)
 
   -- ---- a session that ended in a turn
-  module _ (fault : CoreFault) (stops : StopsIn (FitsSession (ahead first)) start core fault) where
+  module _ (fault : CoreFault) (stops : StopsIn (FitsSession start.terms (ahead first)) start core fault) where
     has-cut : HasFixed fixed core
     has-cut = stops.fixed fixed has
 
@@ -77,18 +90,22 @@ module _ (first : Reading) (start : Core) (now : Reading) (core : Core) (fixed :
     terms-cut : stops.mid.terms ≡ fixed.terms
     terms-cut = stops.remains.told.terms ∙ has.terms
 
-    bounded-cut : length (numbered core.sheet.events) ≤ fixed.most
-    bounded-cut = omega (arith, stops.sound.room, ap length stops.sound.numbered, ap length (same_numbered (FitsSession (ahead first)) start core fault stops), most-cut)
+    -- the paths that were numbered when the step was refused
+    paths-cut : stops.mid.numbered ≡ numbered_paths fixed.terms stops.mid.sheet.events
+    paths-cut = stops.sound.numbered ∙ ap (λ (t : Terms). numbered_paths t stops.mid.sheet.events) terms-cut
 
-  pub fits : (status : Status) → Ends first start now core status → FitsSession (ahead first) core.sheet.events
+    bounded-cut : length (numbered_paths fixed.terms core.sheet.events) ≤ fixed.most
+    bounded-cut = omega (arith, stops.sound.room, ap length paths-cut, ap length (same_numbered fixed.terms (FitsSession start.terms (ahead first)) start core fault stops), most-cut)
+
+  pub fits : (status : Status) → Ends first start now core status → FitsSession start.terms (ahead first) core.sheet.events
   fits Done ends = ⊎_elim (λ progress. fits-whole now true progress) (λ over. fits-whole over.before false over.progress) ends
   fits Usage ends = absurd ends
   fits ReadFault ends = fits-whole ends.0 false ends.1.progress
   fits EndlessLine ends = fits-whole ends.0 false ends.1.progress
-  fits WriteFault ends = Fits-stops (FitsSession (ahead first)) start core refusal.WriteFault ends
-  fits (JournalFull used more) ends = Fits-stops (FitsSession (ahead first)) start core (refusal.JournalFull used more) ends
-  fits TooManyDocuments ends = Fits-stops (FitsSession (ahead first)) start core refusal.TooManyDocuments ends
-  fits OutOfMemory ends = Fits-stops (FitsSession (ahead first)) start core refusal.OutOfMemory ends
+  fits WriteFault ends = Fits-stops (FitsSession start.terms (ahead first)) start core refusal.WriteFault ends
+  fits (JournalFull used more) ends = Fits-stops (FitsSession start.terms (ahead first)) start core (refusal.JournalFull used more) ends
+  fits TooManyDocuments ends = Fits-stops (FitsSession start.terms (ahead first)) start core refusal.TooManyDocuments ends
+  fits OutOfMemory ends = Fits-stops (FitsSession start.terms (ahead first)) start core refusal.OutOfMemory ends
 
   pub has_now : (status : Status) → Ends first start now core status → HasFixed fixed core
   has_now Done ends = ⊎_elim (λ progress. has-whole now true progress) (λ over. has-whole over.before false over.progress) ends
@@ -100,7 +117,7 @@ module _ (first : Reading) (start : Core) (now : Reading) (core : Core) (fixed :
   has_now TooManyDocuments ends = has-cut refusal.TooManyDocuments ends
   has_now OutOfMemory ends = has-cut refusal.OutOfMemory ends
 
-  pub whole : (status : Status) → Ends first start now core status → EndsBetween status → IsWhole core.sheet.events
+  pub whole : (status : Status) → Ends first start now core status → EndsBetween status → IsWhole start.terms core.sheet.events
   whole Done ends between = ⊎_elim (λ progress. whole-whole now true progress) (λ over. whole-whole over.before false over.progress) ends
   whole ReadFault ends between = whole-whole ends.0 false ends.1.progress
   whole EndlessLine ends between = whole-whole ends.0 false ends.1.progress
@@ -120,7 +137,7 @@ module _ (first : Reading) (start : Core) (now : Reading) (core : Core) (fixed :
   all_printed TooManyDocuments ends other = ends.prints fixed has
   all_printed OutOfMemory ends other = ends.prints fixed has
 
-  pub bounded : (status : Status) → Ends first start now core status → length (numbered core.sheet.events) ≤ fixed.most
+  pub bounded : (status : Status) → Ends first start now core status → length (numbered_paths fixed.terms core.sheet.events) ≤ fixed.most
   bounded Done ends = ⊎_elim (λ progress. bounded-whole now true progress) (λ over. bounded-whole over.before false over.progress) ends
   bounded Usage ends = absurd ends
   bounded ReadFault ends = bounded-whole ends.0 false ends.1.progress
@@ -132,22 +149,20 @@ module _ (first : Reading) (start : Core) (now : Reading) (core : Core) (fixed :
 
   -- after a fault of the sink bytes at the end lack
   pub cut_off : Ends first start now core WriteFault → PrintsCut fixed.written core.sheet.written core.sheet.events
-  cut_off ends =
-      let cut = ends.prints fixed has in
-      record { front = cut.front; last = cut.last; events = cut.events; count = cut.count; short = cut.short; written = cut.written }
+  cut_off ends = (ends.prints fixed has).cut
 
   -- the event that was refused comes next behind the journal
-  comes_next : (fault : CoreFault) (stops : StopsIn (FitsSession (ahead first)) start core fault) (event : Event) → IsNext (FitsSession (ahead first)) stops.mid event → core.sheet.events ≡ stops.mid.sheet.events
+  comes_next : (fault : CoreFault) (stops : StopsIn (FitsSession start.terms (ahead first)) start core fault) (event : Event) → IsNext (FitsSession start.terms (ahead first)) stops.mid event → core.sheet.events ≡ stops.mid.sheet.events
       → ComesNext (told_at_start fixed first) core.sheet.events event
   comes_next fault stops event next same = record {
     may = subst (λ es. May fixed.terms es event.by event.what) (sym same) (subst (λ (t : Terms). May t stops.mid.sheet.events event.by event.what) (terms-cut fault stops) next.may);
-    in_turn = subst (λ es. InTurns (es ++ event ∷ [])) (sym same) next.fits.turns;
+    in_turn = subst (λ es. InTurns fixed.terms (es ++ event ∷ [])) (sym same) (subst (λ (t : Terms). InTurns t (stops.mid.sheet.events ++ event ∷ [])) has.terms next.fits.turns);
     lines = subst (λ es. AsksFirst (ahead first) (es ++ event ∷ [])) (sym same) next.fits.lines;
   }
 
   -- the paths that are numbered are those that the journal notes
-  same_paths : (fault : CoreFault) (stops : StopsIn (FitsSession (ahead first)) start core fault) → core.sheet.events ≡ stops.mid.sheet.events → numbered core.sheet.events ≡ stops.mid.numbered
-  same_paths fault stops same = ap numbered same ∙ sym stops.sound.numbered
+  same_paths : (fault : CoreFault) (stops : StopsIn (FitsSession start.terms (ahead first)) start core fault) → core.sheet.events ≡ stops.mid.sheet.events → numbered_paths fixed.terms core.sheet.events ≡ stops.mid.numbered
+  same_paths fault stops same = ap (numbered_paths fixed.terms) same ∙ sym (paths-cut fault stops)
 
   -- a full journal: the next event of the turn is above the bound
   pub journal_full : (used more : ℕ) → Ends first start now core (JournalFull used more) → IsFullAt (told_at_start fixed first) core.sheet.events used more

@@ -1,23 +1,25 @@
 -- One step of a session: what it adds, and what it keeps.
-use Rattle.std.proofs.Common.{arith, ◌≡◌, ◌≤◌, ◌+◌, ◌∙◌, ℕ, max, Bool, true, false, List, [], ◌∷◌, ◌++◌, length, bytes_eq, None, fold, option_to_list, if◌then◌else◌, inl, inr, refl, ap, sym, subst, append-nil}
-use Rattle.std.proofs.lemmas.List.{length_push, map-append}
-use Rattle.std.proofs.lemmas.List.Sums.{fold-append}
+use Rattle.std.proofs.Common.{arith, ◌≡◌, ◌≤◌, ◌<◌, ◌+◌, ◌∙◌, ℕ, max, Bool, true, false, List, [], ◌∷◌, ◌++◌, length, bytes_eq, Some, None, option_to_list, if◌then◌else◌, inl, inr, refl, ap, sym, subst, append-nil, append_assoc}
+use Rattle.std.proofs.lemmas.List.{length_push}
 use Rattle.std.proofs.lemmas.Bool.{cases_lt}
 use Rattle.ci_base.specs.declared.numbers.Seq.{Seq}
 use Rattle.ci_change.specs.declared.notice.What.{What}
-use Rattle.ci_change.specs.declared.notice.Notice.{Notice}
 use Rattle.ci_change.specs.Pending.{latest_number, served_number}
 use Rattle.ci_change.proofs.PendingLemmas.{latest_number-push, served_number-push}
 use Rattle.ci_journal.specs.declared.event.Event.{Event}
 use Rattle.ci_journal.specs.Bytes.{journal_bytes}
-use Rattle.ci_journal.specs.Completions.{Completion, Filings, completed, file_event, filings, is_numbered, numbered, numbers_of, with_completion, with_path}
-use Rattle.ci_journal.specs.Folds.{notice_in, notices}
-use Rattle.ci_journal.proofs.FoldsLemmas.{filings-push, notices-push}
+use Rattle.ci_journal.specs.Filings.{Filings, fates, filings}
+use Rattle.ci_journal.specs.Folds.{is_numbered, new_notices, next_notice, notices, numbered_paths}
+use Rattle.ci_journal.specs.Served.{number_of, numbers_of, served_numbers}
+use Rattle.ci_journal.specs.Tells.{Filing, tells}
+use Rattle.ci_journal.specs.Tells.Filed.{One}
+use Rattle.ci_journal.specs.Terms.{Terms}
+use Rattle.ci_journal.proofs.FoldsLemmas.{file_where, filings-push, new_notices-push, notices-push, numbered_paths-push, numbers_of-push}
 use Rattle.ci_core.specs.Changes.{noted}
 use Rattle.ci_core.specs.Core.{Core}
 use Rattle.ci_core.specs.Fixed.{KeepsFixed}
 use Rattle.ci_core.specs.Steps.{IsUnrefused, Makes, with_noted}
-use Rattle.ci_server.specs.Stops.{IsSound, Remains}
+use Rattle.ci_server.specs.Stops.{AreBelowNext, IsSound, Remains}
 
 pub Remains-refl : (core : Core) → Remains core core
 Remains-refl core = record { limit = refl; told = record { terms = refl; most = refl }; fixed = λ fixed has. has }
@@ -36,80 +38,116 @@ pub record IsStep (a b : Core) (e : Event) : Type 0 where
   pub sound : IsSound b
   pub within : journal_bytes b.sheet.events ≤ b.sheet.limit
 
--- one event more numbers the path that it notes
-pub numbered-push : (journal : List Event) (e : Event) → numbered (journal ++ e ∷ []) ≡ with_noted (numbered journal) e.what
-numbered-push journal e =
-    let f = λ (so_far : List (List ℕ)) (n : Notice). with_path so_far n.path in
-    ap (λ ns. fold f [] ns) (notices-push journal e) ∙ fold-append f [] (notices journal) (option_to_list (notice_in e.what))
+-- ---- the next notice's number stays above all others
 
-greater-within : (test : Bool) (m n limit : ℕ) → m ≤ limit → n ≤ limit → (if test then max m n else m) ≤ limit
-greater-within true m n limit low high = omega arith
-greater-within false m n limit low high = low
+greater-below : (test : Bool) (m n limit : ℕ) → m < limit → n < limit → (if test then max m n else m) < limit
+greater-below true m n limit low high = omega (arith, low, high)
+greater-below false m n limit low high = low
+
+module _ (terms : Terms) (journal : List Event) (e : Event) where
+  -- an event that is no notice
+  module _ (no_notice : (tells e.what).notice ≡ None) where
+    same_notices : notices terms (journal ++ e ∷ []) ≡ notices terms journal
+    same_notices = notices-push terms journal e ∙ ap (λ o. notices terms journal ++ option_to_list o) no_notice ∙ append-nil (notices terms journal)
+
+    same_new : new_notices (journal ++ e ∷ []) ≡ new_notices journal
+    same_new = new_notices-push journal e ∙ ap (λ o. new_notices journal ++ option_to_list o) no_notice ∙ append-nil (new_notices journal)
+
+    same_next : next_notice terms (journal ++ e ∷ []) ≡ next_notice terms journal
+    same_next = ap (λ ns. terms.beginning.next + length ns) same_new
+
+    latest-same : AreBelowNext terms journal → (path : List ℕ) → latest_number (notices terms (journal ++ e ∷ [])) path < next_notice terms (journal ++ e ∷ [])
+    latest-same below path =
+        subst (λ ns. latest_number ns path < next_notice terms (journal ++ e ∷ [])) (sym same_notices)
+        (subst (λ n. latest_number (notices terms journal) path < n) (sym same_next) (below.latest path))
+
+    -- and files nothing
+    pub below-quiet : (tells e.what).filed ≡ None → AreBelowNext terms journal → AreBelowNext terms (journal ++ e ∷ [])
+    below-quiet no_filing below =
+        let fates_now : fates (journal ++ e ∷ []) ≡ fates journal = ap (λ (f : Filings). f.filed) (filings-push journal e ∙ ap (file_where (filings journal)) no_filing) in
+        let same : served_numbers terms (journal ++ e ∷ []) ≡ served_numbers terms journal = ap (λ fs. terms.beginning.numbers ++ numbers_of fs) fates_now in
+        record {
+          latest = latest-same below;
+          served = λ path. subst (λ ns. served_number ns path < next_notice terms (journal ++ e ∷ [])) (sym same)
+              (subst (λ n. served_number (served_numbers terms journal) path < n) (sym same_next) (below.served path));
+        }
+
+    -- or serves a path under a number below the next
+    pub below-filed : (f : Filing) (path : List ℕ) (seq : Seq) → (tells e.what).filed ≡ Some (One f) → number_of f ≡ Some (path, seq) → seq.0 < next_notice terms journal → AreBelowNext terms journal → AreBelowNext terms (journal ++ e ∷ [])
+    below-filed f path seq files served low below =
+        let fates_now : fates (journal ++ e ∷ []) ≡ fates journal ++ f ∷ [] = ap (λ (fs : Filings). fs.filed) (filings-push journal e ∙ ap (file_where (filings journal)) files) in
+        let numbers : numbers_of (fates (journal ++ e ∷ [])) ≡ numbers_of (fates journal) ++ (path, seq) ∷ [] =
+        ap numbers_of fates_now ∙ numbers_of-push (fates journal) f ∙ ap (λ o. numbers_of (fates journal) ++ option_to_list o) served in
+        let all : served_numbers terms (journal ++ e ∷ []) ≡ served_numbers terms journal ++ (path, seq) ∷ [] =
+        ap (λ ns. terms.beginning.numbers ++ ns) numbers ∙ sym (append_assoc terms.beginning.numbers (numbers_of (fates journal)) ((path, seq) ∷ [])) in
+        record {
+          latest = latest-same below;
+          served = λ other. subst (λ ns. served_number ns other < next_notice terms (journal ++ e ∷ [])) (sym all)
+              (subst (λ n. served_number (served_numbers terms journal ++ (path, seq) ∷ []) other < n) (sym same_next)
+              (subst (λ n. n < next_notice terms journal) (sym (served_number-push (served_numbers terms journal) path seq other))
+              (greater-below (bytes_eq path other) (served_number (served_numbers terms journal) other) seq.0 (next_notice terms journal) (below.served other) low)));
+        }
+
+-- a notice has the next number
+module _ (terms : Terms) (journal : List Event) (path : List ℕ) (seq : Seq) (what : What) (next : seq.0 ≡ next_notice terms journal) where
+  pub next-noted : next_notice terms (journal ++ noted 0 path seq.0 what ∷ []) ≡ seq.0 + 1
+  next-noted =
+      let count : length (new_notices (journal ++ noted 0 path seq.0 what ∷ [])) ≡ length (new_notices journal) + 1 =
+      ap length (new_notices-push journal (noted 0 path seq.0 what)) ∙ length_push (new_notices journal) (record { path = path; seq = seq; what = what }) in
+      omega (arith, count, next)
+
+  pub below-noted : AreBelowNext terms journal → AreBelowNext terms (journal ++ noted 0 path seq.0 what ∷ [])
+  below-noted below =
+      let e = noted 0 path seq.0 what in
+      let all : notices terms (journal ++ e ∷ []) ≡ notices terms journal ++ record { path = path; seq = seq; what = what } ∷ [] = notices-push terms journal e in
+      let fates_now : fates (journal ++ e ∷ []) ≡ fates journal = ap (λ (f : Filings). f.filed) (filings-push journal e) in
+      let same : served_numbers terms (journal ++ e ∷ []) ≡ served_numbers terms journal = ap (λ fs. terms.beginning.numbers ++ numbers_of fs) fates_now in
+      record {
+        latest = λ other. subst (λ ns. latest_number ns other < next_notice terms (journal ++ e ∷ [])) (sym all)
+            (subst (λ n. latest_number (notices terms journal ++ record { path = path; seq = seq; what = what } ∷ []) other < n) (sym next-noted)
+            (subst (λ n. n < seq.0 + 1) (sym (latest_number-push (notices terms journal) (record { path = path; seq = seq; what = what }) other))
+            (greater-below (bytes_eq path other) (latest_number (notices terms journal) other) seq.0 (seq.0 + 1) (omega (arith, next, below.latest other)) (omega arith))));
+        served = λ other. subst (λ ns. served_number ns other < next_notice terms (journal ++ e ∷ [])) (sym same)
+            (subst (λ n. served_number (served_numbers terms journal) other < n) (sym next-noted) (omega (arith, next, below.served other)));
+      }
+
+-- ---- a step that added an event
 
 module _ (a b : Core) (e : Event) (sound : IsSound a) (makes : Makes a b e) (unrefused : IsUnrefused a b) (keeps : KeepsFixed a b) where
-  step-any : length b.numbered ≤ b.most → ((path : List ℕ) → latest_number (notices b.sheet.events) path ≤ length (notices b.sheet.events))
-      → ((path : List ℕ) → served_number (numbers_of (completed b.sheet.events)) path ≤ length (notices b.sheet.events)) → IsStep a b e
-  step-any room latest served = record {
+  step-any : length b.numbered ≤ b.most → AreBelowNext a.terms (a.sheet.events ++ e ∷ []) → IsStep a b e
+  step-any room below = record {
     events = makes.adds.events;
     remains = record { limit = makes.adds.limit; told = makes.told; fixed = keeps };
     sound = record {
       unrefused = unrefused.after;
-      numbered = makes.numbered ∙ ap (λ ns. with_noted ns e.what) sound.numbered ∙ sym (numbered-push a.sheet.events e) ∙ ap numbered (sym makes.adds.events);
+      numbered = makes.numbered ∙ ap (λ ns. with_noted ns e.what) sound.numbered ∙ sym (numbered_paths-push a.terms a.sheet.events e)
+          ∙ ap (numbered_paths a.terms) (sym makes.adds.events) ∙ ap (λ (t : Terms). numbered_paths t b.sheet.events) (sym makes.told.terms);
       room = room;
-      latest = latest;
-      served = served;
+      below = subst (λ (t : Terms). AreBelowNext t b.sheet.events) (sym makes.told.terms) (subst (AreBelowNext a.terms) (sym makes.adds.events) below);
+      plain = ap (λ (t : Terms). t.in_lists) makes.told.terms ∙ sound.plain;
     };
     within = makes.adds.within;
   }
 
-  notices-now : notices b.sheet.events ≡ notices a.sheet.events ++ option_to_list (notice_in e.what)
-  notices-now = ap notices makes.adds.events ∙ notices-push a.sheet.events e
-
-  completed-now : completed b.sheet.events ≡ (file_event (filings a.sheet.events) e.what).completed
-  completed-now = ap completed makes.adds.events ∙ ap (λ (filed : Filings). filed.completed) (filings-push a.sheet.events e)
-
   -- an event that is no notice numbers nothing
-  module _ (no_notice : notice_in e.what ≡ None) where
-    same_notices : notices b.sheet.events ≡ notices a.sheet.events
-    same_notices = notices-now ∙ rw no_notice (append-nil _)
-
+  module _ (no_notice : (tells e.what).notice ≡ None) where
     same_room : length b.numbered ≤ b.most
     same_room =
         let same : b.numbered ≡ a.numbered = makes.numbered ∙ rw no_notice refl in
         omega (arith, sound.room, ap length same, makes.told.most)
 
-    same_latest : (path : List ℕ) → latest_number (notices b.sheet.events) path ≤ length (notices b.sheet.events)
-    same_latest path = subst (λ ns. latest_number ns path ≤ length ns) (sym same_notices) (sound.latest path)
-
     -- and nothing is filed
-    pub step-quiet : ((filed : Filings) → file_event filed e.what ≡ filed) → IsStep a b e
-    step-quiet no_filing =
-        let same : completed b.sheet.events ≡ completed a.sheet.events = completed-now ∙ ap (λ (filed : Filings). filed.completed) (no_filing (filings a.sheet.events)) in
-        step-any same_room same_latest
-        (λ path. subst (λ cs. served_number (numbers_of cs) path ≤ length (notices b.sheet.events)) (sym same)
-        (subst (λ ns. served_number (numbers_of (completed a.sheet.events)) path ≤ length ns) (sym same_notices) (sound.served path)))
+    pub step-quiet : (tells e.what).filed ≡ None → IsStep a b e
+    step-quiet no_filing = step-any same_room (below-quiet a.terms a.sheet.events e no_notice no_filing sound.below)
 
-    -- or something is filed under a notice that was noted
-    pub step-filed : (c : Completion) → ((filed : Filings) → file_event filed e.what ≡ with_completion filed c) → c.seq.0 ≤ length (notices a.sheet.events) → IsStep a b e
-    step-filed c filing within =
-        let now : completed b.sheet.events ≡ completed a.sheet.events ++ c ∷ [] = completed-now ∙ ap (λ (filed : Filings). filed.completed) (filing (filings a.sheet.events)) in
-        let numbers : numbers_of (completed b.sheet.events) ≡ numbers_of (completed a.sheet.events) ++ (c.path, c.seq) ∷ [] =
-        ap numbers_of now ∙ map-append (λ (c : Completion). (c.path, c.seq)) (completed a.sheet.events) (c ∷ []) in
-        let few : length (notices b.sheet.events) ≡ length (notices a.sheet.events) = ap length same_notices in
-        step-any same_room same_latest
-        (λ path. let push = served_number-push (numbers_of (completed a.sheet.events)) c.path c.seq path in
-        subst (λ n. n ≤ length (notices b.sheet.events)) (sym (ap (λ ns. served_number ns path) numbers ∙ push))
-        (greater-within (bytes_eq c.path path) (served_number (numbers_of (completed a.sheet.events)) path) c.seq.0 (length (notices b.sheet.events)) (omega (arith, few, sound.served path)) (omega (arith, few, within))))
+    -- or a path is served under a notice that was noted
+    pub step-filed : (f : Filing) (path : List ℕ) (seq : Seq) → (tells e.what).filed ≡ Some (One f) → number_of f ≡ Some (path, seq) → seq.0 < next_notice a.terms a.sheet.events → IsStep a b e
+    step-filed f path seq files served low = step-any same_room (below-filed a.terms a.sheet.events e no_notice f path seq files served low sound.below)
 
 -- a notice has the next number, and there was room for its path
-module _ (a b : Core) (path : List ℕ) (seq : Seq) (what : What) (sound : IsSound a) (next : seq.0 ≡ length (notices a.sheet.events) + 1)
+module _ (a b : Core) (path : List ℕ) (seq : Seq) (what : What) (sound : IsSound a) (next : seq.0 ≡ next_notice a.terms a.sheet.events)
     (makes : Makes a b (noted 0 path seq.0 what)) (unrefused : IsUnrefused a b) (keeps : KeepsFixed a b)
     (not_crowded : a.refusal ≡ None → is_numbered a.numbered path ≡ false → a.most ≤ length a.numbered → ⊥) where
-  pub count-noted : length (notices b.sheet.events) ≡ seq.0
-  count-noted =
-      ap (λ es. length (notices es)) makes.adds.events ∙ ap length (notices-push a.sheet.events (noted 0 path seq.0 what))
-      ∙ length_push (notices a.sheet.events) (record { path = path; seq = seq; what = what }) ∙ sym next
-
   room-noted : (known : Bool) → is_numbered a.numbered path ≡ known → length b.numbered ≤ b.most
   room-noted true known =
       let same : b.numbered ≡ a.numbered = makes.numbered ∙ rw known refl in
@@ -124,11 +162,5 @@ module _ (a b : Core) (path : List ℕ) (seq : Seq) (what : What) (sound : IsSou
 
   pub step-noted : IsStep a b (noted 0 path seq.0 what)
   step-noted =
-      let e = noted 0 path seq.0 what in
-      let now : notices b.sheet.events ≡ notices a.sheet.events ++ record { path = path; seq = seq; what = what } ∷ [] = notices-now a b e sound makes unrefused keeps in
-      let same : completed b.sheet.events ≡ completed a.sheet.events = completed-now a b e sound makes unrefused keeps in
-      step-any a b e sound makes unrefused keeps (room-noted (is_numbered a.numbered path) refl)
-      (λ other. let push = latest_number-push (notices a.sheet.events) (record { path = path; seq = seq; what = what }) other in
-      subst (λ n. n ≤ length (notices b.sheet.events)) (sym (ap (λ ns. latest_number ns other) now ∙ push))
-      (greater-within (bytes_eq path other) (latest_number (notices a.sheet.events) other) seq.0 (length (notices b.sheet.events)) (omega (arith, count-noted, next, sound.latest other)) (omega (arith, count-noted))))
-      (λ other. subst (λ cs. served_number (numbers_of cs) other ≤ length (notices b.sheet.events)) (sym same) (omega (arith, count-noted, next, sound.served other)))
+      step-any a b (noted 0 path seq.0 what) sound makes unrefused keeps (room-noted (is_numbered a.numbered path) refl)
+      (below-noted a.terms a.sheet.events path seq what next sound.below)

@@ -1,11 +1,13 @@
 -- The steps of a request, as far as they come.
-use Rattle.std.proofs.Common.{arith, ◌≡◌, ◌∙◌, ℕ, ◌||◌, false, List, [], ◌∷◌, ◌++◌, length, inr, refl, ap, sym, subst, append-nil, append_assoc}
-use Rattle.std.proofs.lemmas.List.Elements.{filter_map-append}
+use Rattle.std.proofs.Common.{arith, ◌≡◌, ◌∙◌, ◌==◌, ℕ, ◌||◌, false, List, [], ◌∷◌, ◌++◌, length, slice_get, zero, suc, refl, ap, sym, append-nil, append_assoc}
 use Rattle.std.proofs.lemmas.List.Folds.{list_any-append}
+use Rattle.std.specs.List.{list_any}
 use Rattle.ci_journal.specs.declared.event.Event.{Event}
 use Rattle.ci_journal.specs.declared.request.Request.{Request}
-use Rattle.ci_journal.specs.Folds.{asked, request_in, replies_to, is_replied}
+use Rattle.ci_journal.specs.Folds.{requests_in, request_at, is_opened, is_replied, openings, reply_numbers}
 use Rattle.ci_journal.specs.Step.{MaySay}
+use Rattle.ci_journal.specs.Tells.{Tells}
+use Rattle.ci_journal.proofs.TellsLemmas.{tellings-append}
 use Rattle.ci_core.specs.declared.core_fault.CoreFault.{CoreFault}
 use Rattle.ci_core.specs.declared.core_fault.CoreFault.TheVariants.{OutOfMemory}
 use Rattle.ci_core.specs.Core.{Core}
@@ -33,16 +35,26 @@ IsAt-step old a b steps e at step = record {
   sound = step.sound;
 }
 
-pub asked-append : (xs ys : List Event) → asked (xs ++ ys) ≡ asked xs ++ asked ys
-asked-append xs ys = filter_map-append (λ (e : Event). request_in e.what) xs ys
+pub requests_in-append : (xs ys : List Event) → requests_in (xs ++ ys) ≡ requests_in xs ++ requests_in ys
+requests_in-append xs ys = tellings-append (λ (t : Tells). t.request) xs ys
 
 pub is_replied-append : (xs ys : List Event) (id : ℕ) → is_replied (xs ++ ys) id ≡ (is_replied xs id || is_replied ys id)
-is_replied-append xs ys id = list_any-append (λ (e : Event). replies_to id e.what) xs ys
+is_replied-append xs ys id =
+    ap (λ rs. list_any (λ r. r == id) rs) (tellings-append (λ (t : Tells). t.reply) xs ys) ∙ list_any-append (λ r. r == id) (reply_numbers xs) (reply_numbers ys)
+
+pub is_opened-append : (xs ys : List Event) (id : ℕ) → is_opened (xs ++ ys) id ≡ (is_opened xs id || is_opened ys id)
+is_opened-append xs ys id =
+    ap (λ os. list_any (λ o. o == id) os) (tellings-append (λ (t : Tells). t.opening) xs ys) ∙ list_any-append (λ o. o == id) (openings xs) (openings ys)
+
+-- steps that ask nothing leave the requests as they are
+pub request_at-append : (xs ys : List Event) → requests_in ys ≡ [] → (id : ℕ) → request_at (xs ++ ys) id ≡ request_at xs id
+request_at-append xs ys none zero = refl
+request_at-append xs ys none (suc k) = ap (λ rs. slice_get rs k) (requests_in-append xs ys ∙ ap (λ rs. requests_in xs ++ rs) none ∙ append-nil (requests_in xs))
 
 -- behind steps that neither ask nor reply, a request may be replied to as before
-pub MaySay-at : (old now : Core) (steps : List Event) (id : ℕ) → IsAt old now steps → asked steps ≡ [] → is_replied steps id ≡ false → MaySay old.sheet.events id → MaySay now.sheet.events id
+pub MaySay-at : (old now : Core) (steps : List Event) (id : ℕ) → IsAt old now steps → requests_in steps ≡ [] → is_replied steps id ≡ false → MaySay old.sheet.events id → MaySay now.sheet.events id
 MaySay-at old now steps id at none_asked none_replied may =
-    let same : asked now.sheet.events ≡ asked old.sheet.events = ap asked at.events ∙ asked-append old.sheet.events steps ∙ rw none_asked (append-nil _) in
+    let same : requests_in now.sheet.events ≡ requests_in old.sheet.events = ap requests_in at.events ∙ requests_in-append old.sheet.events steps ∙ rw none_asked (append-nil _) in
     record {
       numbered = may.numbered;
       asked_before = omega (arith, may.asked_before, ap length same);
@@ -51,23 +63,22 @@ MaySay-at old now steps id at none_asked none_replied may =
 
 module _ (old : Core) (id : ℕ) (request : Request) where
   -- the next of the steps was refused
-  pub steps-stop : (now new : Core) (steps : List Event) (e : Event) (rest : List Event) (fault : CoreFault) → IsAt old now steps → AreSteps old.sheet.events id request (steps ++ e ∷ rest)
-      → Refuses now new e fault → KeepsFixed now new → NotesInRoom now e fault → StopsSteps old new id request fault
-  steps-stop now new steps e rest fault at made refuses keeps room =
-      let F = FitsSteps old.sheet.events id request in
-      let made_on = subst (AreSteps old.sheet.events id request) (sym (append_assoc steps (e ∷ []) rest)) made in
+  pub steps-stop : (now new : Core) (steps : List Event) (e : Event) (fault : CoreFault) → IsAt old now steps → AreFirst old.terms old.sheet.events id request steps
+      → AreFirst old.terms old.sheet.events id request (steps ++ e ∷ []) → Refuses now new e fault → KeepsFixed now new → NotesInRoom now e fault → StopsSteps old new id request fault
+  steps-stop now new steps e fault at first with_next refuses keeps room =
+      let F = FitsSteps old.terms old.sheet.events id request in
       StopsIn-map F F (λ _ fits. fits) old now new fault at.remains
-      (StopsIn-refused F now new e fault at.sound (steps, record { rest = e ∷ rest; made = inr made }, at.events)
-      (steps ++ e ∷ [], record { rest = rest; made = inr made_on }, ap (λ es. es ++ e ∷ []) at.events ∙ append_assoc old.sheet.events steps (e ∷ [])) refuses keeps room)
+      (StopsIn-refused F now new e fault at.sound (steps, first, at.events)
+      (steps ++ e ∷ [], with_next, ap (λ es. es ++ e ∷ []) at.events ∙ append_assoc old.sheet.events steps (e ∷ [])) refuses keeps room)
 
   -- there was no memory for what the next step needs
-  pub steps-starve : (now : Core) (steps : List Event) → IsAt old now steps → AreFirst old.sheet.events id request steps → StopsSteps old now id request OutOfMemory
+  pub steps-starve : (now : Core) (steps : List Event) → IsAt old now steps → AreFirst old.terms old.sheet.events id request steps → StopsSteps old now id request OutOfMemory
   steps-starve now steps at first =
-      let F = FitsSteps old.sheet.events id request in
+      let F = FitsSteps old.terms old.sheet.events id request in
       StopsIn-map F F (λ _ fits. fits) old now now OutOfMemory at.remains (StopsIn-starved F now at.sound (steps, first, at.events))
 
   -- all steps were made
-  pub steps-serve : (now new : Core) (steps : List Event) (e : Event) → IsAt old now steps → IsStep now new e → AreSteps old.sheet.events id request (steps ++ e ∷ []) → ServesSteps old new id request
+  pub steps-serve : (now new : Core) (steps : List Event) (e : Event) → IsAt old now steps → IsStep now new e → AreSteps old.terms old.sheet.events id request (steps ++ e ∷ []) → ServesSteps old new id request
   steps-serve now new steps e at step made =
       let all = IsAt-step old now new steps e at step in
       record { steps = steps ++ e ∷ []; made = made; events = all.events; remains = all.remains; sound = all.sound; within = step.within }

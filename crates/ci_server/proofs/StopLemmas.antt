@@ -6,7 +6,7 @@ use Rattle.ci_core.specs.declared.core_fault.CoreFault.{CoreFault}
 use Rattle.ci_core.specs.declared.core_fault.CoreFault.TheVariants.{TooManyDocuments, JournalFull, OutOfMemory, WriteFault, Ended}
 use Rattle.ci_core.specs.Core.{Core}
 use Rattle.ci_core.specs.Fixed.{KeepsFixed, PrintsAfter}
-use Rattle.ci_journal.specs.Folds.{notice_in}
+use Rattle.ci_journal.specs.Tells.{tells}
 use Rattle.ci_core.specs.Refusals.{IsCrowded, IsOver, Refuses, Stops}
 use Rattle.ci_server.specs.Stops.{Halts, IsNext, IsSound, Remains, StopsIn}
 use Rattle.ci_server.proofs.StepLemmas.{Remains-refl, Remains-trans}
@@ -49,7 +49,7 @@ some_lines old new bytes front = omega (arith, front.1)
 -- the event notes no path, or a full journal isn't told where it notes one too many
 abbrev pub NotesInRoom : Core → Event → CoreFault → Type 0
 NotesInRoom core event fault =
-    (notice_in event.what ≡ None) ⊎ ((used more : ℕ) → fault ≡ JournalFull used more → IsCrowded core event → ⊥)
+    ((tells event.what).notice ≡ None) ⊎ ((used more : ℕ) → fault ≡ JournalFull used more → IsCrowded core event → ⊥)
 
 uncrowded : (core : Core) (event : Event) (used more : ℕ) → NotesInRoom core event (JournalFull used more) → IsCrowded core event → ⊥
 uncrowded core event used more room crowd =

@@ -4,13 +4,13 @@ use Rattle.std.specs.Io.KnownBytes.{Appends, IsAtEnd}
 use Rattle.ci_io.specs.Causes.{Rose}
 use Rattle.ci_journal.specs.declared.event.Event.{Event}
 use Rattle.ci_journal.specs.Bytes.{journal_bytes}
-use Rattle.ci_journal.specs.Completions.{numbered}
-use Rattle.ci_journal.specs.Printed.{printed}
+use Rattle.ci_journal.specs.Folds.{numbered_paths}
+use Rattle.ci_journal.specs.Printed.{PrintsCut, printed}
 use Rattle.ci_journal.specs.Step.{Run}
 use Rattle.ci_journal.specs.Terms.{Terms}
 use Rattle.ci_server.specs.declared.status.Status.{Status}
 use Rattle.ci_server.specs.declared.status.Status.TheVariants.{Done, Usage, ReadFault, WriteFault, JournalFull, TooManyDocuments, EndlessLine}
-use Rattle.ci_server.specs.Session.{InTurns, IsWhole, EndsBetween, AsksFirst, AsksAll, AsksBefore, AsksTaken, EndsByQuit, ComesTooLong, PrintsCut, IsFullAt, IsCrowdedAt, Told}
+use Rattle.ci_server.specs.Session.{InTurns, IsWhole, EndsBetween, AsksFirst, AsksAll, AsksBefore, AsksTaken, EndsByQuit, ComesTooLong, IsFullAt, IsCrowdedAt, Told}
 
 -- the settings, the source and the sink before and after, the status and the journal
 pub record Course : Type 0 where
@@ -35,8 +35,8 @@ told_of c = record { terms = c.terms; limit = c.limit; most = c.most; bytes = c.
 -- each field is the clause of its name
 pub record IsTold (c : Course) : Type 0 where
   pub run : Run c.terms c.journal
-  pub turns : InTurns c.journal
-  pub whole : EndsBetween c.status → IsWhole c.journal
+  pub turns : InTurns c.terms c.journal
+  pub whole : EndsBetween c.status → IsWhole c.terms c.journal
   pub lines : AsksFirst c.bytes c.journal
   pub all_lines : c.status ≡ Done → AsksAll c.bytes c.journal
   pub done : c.status ≡ Done → IsAtEnd c.left ⊎ EndsByQuit c.journal
@@ -52,5 +52,5 @@ pub record IsTold (c : Course) : Type 0 where
   pub journal_full : (used more : ℕ) → c.status ≡ JournalFull used more → IsFullAt (told_of c) c.journal used more
   pub crowded : c.status ≡ TooManyDocuments → IsCrowdedAt (told_of c) c.journal
   pub within : journal_bytes c.journal ≤ c.limit
-  pub bounded : length (numbered c.journal) ≤ c.most
+  pub bounded : length (numbered_paths c.terms c.journal) ≤ c.most
   pub endless : c.status ≡ EndlessLine → ComesTooLong c.bytes c.left c.journal

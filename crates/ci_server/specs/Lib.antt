@@ -1,6 +1,7 @@
 pub mod Course
 pub mod Progress
 pub mod Requests
+pub mod Right
 pub mod Served
 pub mod Session
 pub mod Status

@@ -8,12 +8,15 @@ use Rattle.ci_io.specs.Reading.{Reading, IsOver, Loses, BeginsTooLong, ahead}
 use Rattle.ci_journal.specs.declared.event.Event.{Event}
 use Rattle.ci_journal.specs.declared.request.Request.{Request}
 use Rattle.ci_journal.specs.declared.request.Request.TheVariants.{Quit}
-use Rattle.ci_journal.specs.Folds.{asked, last_of}
+use Rattle.ci_journal.specs.Folds.{requests_in}
+use Rattle.ci_journal.specs.Requests.{is_quit}
+use Rattle.ci_journal.specs.Tells.{last_of}
+use Rattle.ci_journal.specs.Terms.{Terms}
 use Rattle.ci_core.specs.declared.core_fault.CoreFault.TheVariants as fault
 use Rattle.ci_core.specs.Core.{Core}
 use Rattle.ci_server.specs.declared.status.Status.{Status}
 use Rattle.ci_server.specs.declared.status.Status.TheVariants.{Done, Usage, ReadFault, WriteFault, JournalFull, TooManyDocuments, OutOfMemory, EndlessLine}
-use Rattle.ci_server.specs.Requests.{IsOfLine, is_quit, Reads, Feeds}
+use Rattle.ci_server.specs.Requests.{IsOfLine, Reads, Feeds}
 use Rattle.ci_server.specs.Served.{IsBetween, FitsTurn, ServesTurn}
 use Rattle.ci_server.specs.Session.{InTurns, AsksFirst}
 use Rattle.ci_server.specs.Stops.{Remains, StopsIn}
@@ -29,7 +32,7 @@ pub record ServesLine (before now : Reading) (old new : Core) (quit : Bool) : Ty
   pub at_end : now.ended ≡ true → IsAtEnd now.left
   pub stays_ended : before.ended ≡ true → now.ended ≡ true
   pub faults : now.faults ≡ before.faults
-  pub serves : ServesTurn old new (length (asked old.sheet.events) + 1) request
+  pub serves : ServesTurn old new (length (requests_in old.sheet.events) + 1) request
 
 -- the source had ended, and nothing was done
 pub record FindsEnd (before now : Reading) (old new : Core) : Type 0 where
@@ -42,12 +45,12 @@ GoesOn before now old new true = ServesLine before now old new false
 GoesOn before now old new false = ServesLine before now old new true ⊎ FindsEnd before now old new
 
 -- the journal is as it was, or goes on with the first events of the next line's turn
-abbrev pub FitsLine : Option (List ℕ) → List Event → List Event → Type 0
-FitsLine left before journal =
+abbrev pub FitsLine : Terms → Option (List ℕ) → List Event → List Event → Type 0
+FitsLine terms left before journal =
     (journal ≡ before)
     ⊎ ((request : Request) × (rest : Option (List ℕ))
     × Reads left rest (request ∷ []) (is_quit request) × IsOfLine request
-    × FitsTurn before (length (asked before) + 1) request journal)
+    × FitsTurn terms before (length (requests_in before) + 1) request journal)
 
 -- no line was read: at most its beginning was taken, and the source hadn't told its end before
 pub record IsUnread (before now : Reading) : Type 0 where
@@ -61,17 +64,17 @@ StopsAt before now old new Done = ⊥
 StopsAt before now old new Usage = ⊥
 StopsAt before now old new ReadFault = (new ≡ old) × IsUnread before now × Rose before.faults now.faults
 StopsAt before now old new EndlessLine = (new ≡ old) × IsUnread before now × BeginsTooLong (ahead before)
-StopsAt before now old new WriteFault = StopsIn (FitsLine (ahead before) old.sheet.events) old new fault.WriteFault
+StopsAt before now old new WriteFault = StopsIn (FitsLine old.terms (ahead before) old.sheet.events) old new fault.WriteFault
 StopsAt before now old new (JournalFull used more) =
-    StopsIn (FitsLine (ahead before) old.sheet.events) old new (fault.JournalFull used more)
+    StopsIn (FitsLine old.terms (ahead before) old.sheet.events) old new (fault.JournalFull used more)
 StopsAt before now old new TooManyDocuments =
-    StopsIn (FitsLine (ahead before) old.sheet.events) old new fault.TooManyDocuments
-StopsAt before now old new OutOfMemory = StopsIn (FitsLine (ahead before) old.sheet.events) old new fault.OutOfMemory
+    StopsIn (FitsLine old.terms (ahead before) old.sheet.events) old new fault.TooManyDocuments
+StopsAt before now old new OutOfMemory = StopsIn (FitsLine old.terms (ahead before) old.sheet.events) old new fault.OutOfMemory
 
 -- whole turns were served, of the lines that were read, the last of which may have ended the session
 pub record Progress (first : Reading) (start : Core) (now : Reading) (core : Core) (quit : Bool) : Type 0 where
   pub served : List Request
-  pub turns : Turns core.sheet.events served
+  pub turns : Turns start.terms core.sheet.events served
   pub of_lines : AllByRecursion IsOfLine served
   pub remains : Remains start core
   pub between : IsBetween core
@@ -94,8 +97,8 @@ pub record EndsUnread (first : Reading) (start : Core) (before now : Reading) (c
   pub unread : IsUnread before now
 
 -- turns of the first requests of the bytes
-pub record FitsSession (all : Option (List ℕ)) (journal : List Event) : Type 0 where
-  pub turns : InTurns journal
+pub record FitsSession (terms : Terms) (all : Option (List ℕ)) (journal : List Event) : Type 0 where
+  pub turns : InTurns terms journal
   pub lines : AsksFirst all journal
 
 -- how a session that ends with this status went
@@ -106,8 +109,8 @@ Ends first start now core ReadFault =
     (before : Reading) × EndsUnread first start before now core × Rose before.faults now.faults
 Ends first start now core EndlessLine =
     (before : Reading) × EndsUnread first start before now core × BeginsTooLong (ahead before)
-Ends first start now core WriteFault = StopsIn (FitsSession (ahead first)) start core fault.WriteFault
+Ends first start now core WriteFault = StopsIn (FitsSession start.terms (ahead first)) start core fault.WriteFault
 Ends first start now core (JournalFull used more) =
-    StopsIn (FitsSession (ahead first)) start core (fault.JournalFull used more)
-Ends first start now core TooManyDocuments = StopsIn (FitsSession (ahead first)) start core fault.TooManyDocuments
-Ends first start now core OutOfMemory = StopsIn (FitsSession (ahead first)) start core fault.OutOfMemory
+    StopsIn (FitsSession start.terms (ahead first)) start core (fault.JournalFull used more)
+Ends first start now core TooManyDocuments = StopsIn (FitsSession start.terms (ahead first)) start core fault.TooManyDocuments
+Ends first start now core OutOfMemory = StopsIn (FitsSession start.terms (ahead first)) start core fault.OutOfMemory

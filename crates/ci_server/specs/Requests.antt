@@ -6,24 +6,11 @@ use Rattle.ci_io.specs.declared.line.Line.TheVariants as line
 use Rattle.ci_io.specs.Lines.{raw_lines, HasNoFeed}
 use Rattle.ci_io.specs.Reading.{IsShort, line_of}
 use Rattle.ci_journal.specs.declared.request.Request.{Request}
-use Rattle.ci_journal.specs.declared.request.Request.TheVariants.{Changed, Deleted, Put, Query, Pending, Wait, Quit, Bad, Long}
-use Rattle.ci_journal.specs.Requests.{request_of}
+use Rattle.ci_journal.specs.Requests.{is_quit, request_of}
 
 -- the request of a line that still has its carriage return
 abbrev pub line_request : List ℕ → Request
 line_request raw = request_of (line_of raw)
-
--- the request ends the session
-abbrev pub is_quit : Request → Bool
-is_quit (Changed path) = false
-is_quit (Deleted path) = false
-is_quit (Put path text) = false
-is_quit (Query text) = false
-is_quit Pending = false
-is_quit Wait = false
-is_quit Quit = true
-is_quit Bad = false
-is_quit Long = false
 
 -- up to and including the first that ends the session
 abbrev pub through_quit : List Request → List Request

@@ -1,7 +1,6 @@
 -- What a session that has ended says of its journal, its source and its sink.
-use Rattle.std.specs.Prelude.{◌≡◌, ◌<◌, ◌≤◌, ◌+◌, ⊤, ◌⊎◌, ℕ, false, List, [], ◌∷◌, ◌++◌, Option, Some, None, length, take, map, flat_map}
+use Rattle.std.specs.Prelude.{◌≡◌, ◌<◌, ◌≤◌, ◌+◌, ⊤, ◌⊎◌, ℕ, false, List, [], ◌∷◌, ◌++◌, Option, Some, None, length, map, flat_map}
 use Rattle.std.specs.List.{AllByRecursion}
-use Rattle.std.specs.Io.KnownBytes.{Appends}
 use Rattle.ci_io.specs.Lines.{HasNoFeed}
 use Rattle.ci_io.specs.Reading.{BeginsTooLong}
 use Rattle.ci_change.specs.declared.notice.Notice.{Notice}
@@ -9,12 +8,12 @@ use Rattle.ci_journal.specs.declared.event.Event.{Event}
 use Rattle.ci_journal.specs.declared.request.Request.{Request}
 use Rattle.ci_journal.specs.declared.request.Request.TheVariants as request
 use Rattle.ci_journal.specs.Bytes.{capped, event_bytes, journal_bytes}
-use Rattle.ci_journal.specs.Completions.{is_numbered, numbered}
-use Rattle.ci_journal.specs.Folds.{asked, last_of, notice_in}
-use Rattle.ci_journal.specs.Printed.{lines_of, printed}
+use Rattle.ci_journal.specs.Folds.{is_numbered, numbered_paths, requests_in}
 use Rattle.ci_journal.specs.Step.{May}
+use Rattle.ci_journal.specs.Tells.{last_of, tells}
 use Rattle.ci_journal.specs.Terms.{Terms}
 use Rattle.ci_core.specs.declared.settings.Settings.{Settings}
+use Rattle.ci_core.specs.Core.{terms_of}
 use Rattle.ci_words.specs.Noise.{standard_noise}
 use Rattle.ci_server.specs.declared.status.Status.{Status}
 use Rattle.ci_server.specs.declared.status.Status.TheVariants.{Done, Usage, ReadFault, WriteFault, JournalFull, TooManyDocuments, OutOfMemory, EndlessLine}
@@ -22,31 +21,31 @@ use Rattle.ci_server.specs.Requests.{IsOfLine, requests, line_request, with_feed
 use Rattle.ci_server.specs.Turns.{IsTurnFront, Turns}
 
 -- whole turns, of these requests
-abbrev pub IsWhole : List Event → Type 0
-IsWhole journal = (served : List Request) × Turns journal served
+abbrev pub IsWhole : Terms → List Event → Type 0
+IsWhole terms journal = (served : List Request) × Turns terms journal served
 
 -- whole turns, and behind them the first events of one more turn, or none
-pub record InTurns (journal : List Event) : Type 0 where
+pub record InTurns (terms : Terms) (journal : List Event) : Type 0 where
   pub whole : List Event
-  pub turns : IsWhole whole
+  pub turns : IsWhole terms whole
   pub front : List Event
   pub events : journal ≡ whole ++ front
-  pub cut : (front ≡ []) ⊎ ((id : ℕ) × (request : Request) × IsTurnFront whole id request front)
+  pub cut : (front ≡ []) ⊎ ((id : ℕ) × (request : Request) × IsTurnFront terms whole id request front)
 
 -- where the source's bytes are told: the requests that were asked are the first of theirs; where they aren't, each
 -- is a line's
 abbrev pub AsksFirst : Option (List ℕ) → List Event → Type 0
-AsksFirst None journal = AllByRecursion IsOfLine (asked journal)
-AsksFirst (Some all) journal = (more : List Request) × (requests all ≡ asked journal ++ more)
+AsksFirst None journal = AllByRecursion IsOfLine (requests_in journal)
+AsksFirst (Some all) journal = (more : List Request) × (requests all ≡ requests_in journal ++ more)
 
 -- and these are all of them
 abbrev pub AsksAll : Option (List ℕ) → List Event → Type 0
 AsksAll None journal = ⊤
-AsksAll (Some all) journal = requests all ≡ asked journal
+AsksAll (Some all) journal = requests all ≡ requests_in journal
 
 -- the last request that was asked ends the session
 abbrev pub EndsByQuit : List Event → Type 0
-EndsByQuit journal = last_of (asked journal) ≡ Some request.Quit
+EndsByQuit journal = last_of (requests_in journal) ≡ Some request.Quit
 
 -- the session took lines with their line feeds, which ask for what was asked, and then some bytes more
 pub record TakesLines (all left : List ℕ) (journal : List Event) : Type 0 where
@@ -54,7 +53,7 @@ pub record TakesLines (all left : List ℕ) (journal : List Event) : Type 0 wher
   pub begun : List ℕ
   pub whole : all ≡ flat_map with_feed raws ++ begun ++ left
   pub each : AllByRecursion HasNoFeed raws
-  pub asked_are : asked journal ≡ map line_request raws
+  pub asked_are : requests_in journal ≡ map line_request raws
 
 -- where the bytes are told: of these bytes the session used nothing
 abbrev pub AsksBefore : Option (List ℕ) → Option (List ℕ) → List Event → Type 0
@@ -75,15 +74,6 @@ ComesTooLong (Some all) None journal = ⊥
 ComesTooLong (Some all) (Some left) journal =
     (takes : TakesLines all left journal) × HasNoFeed takes.begun × BeginsTooLong (Some (takes.begun ++ left))
 
--- the journal was printed, but for bytes at the end of the last event's lines
-pub record PrintsCut (old new : Option (List ℕ)) (journal : List Event) : Type 0 where
-  pub front : List Event
-  pub last : Event
-  pub events : journal ≡ front ++ last ∷ []
-  pub count : ℕ
-  pub short : count < length (lines_of last.what)
-  pub written : Appends old new (printed front ++ take count (lines_of last.what))
-
 -- what a session was told at its start, and what its source had
 pub record Told : Type 0 where
   pub terms : Terms
@@ -94,24 +84,24 @@ pub record Told : Type 0 where
 -- as the settings say it, and with these bytes in the source
 abbrev pub told_of : Settings → Option (List ℕ) → Told
 told_of settings bytes =
-    record { terms = record { noise = settings.noise }; limit = settings.journal; most = settings.documents; bytes = bytes }
+    record { terms = terms_of settings.noise; limit = settings.journal; most = settings.documents; bytes = bytes }
 
 -- under the standard settings: the most that settings allow, and the standard noise words
 abbrev pub told_nothing : Option (List ℕ) → Told
 told_nothing bytes =
-    record { terms = record { noise = standard_noise }; limit = 268435456; most = 262144; bytes = bytes }
+    record { terms = terms_of standard_noise; limit = 268435456; most = 262144; bytes = bytes }
 
 -- the event notes a path that never was noted, and as many paths were noted as may be
-pub record IsOneTooMany (most : ℕ) (journal : List Event) (event : Event) : Type 0 where
+pub record IsOneTooMany (told : Told) (journal : List Event) (event : Event) : Type 0 where
   pub notice : Notice
-  pub notes : notice_in event.what ≡ Some notice
-  pub new_path : is_numbered (numbered journal) notice.path ≡ false
-  pub many : most ≤ length (numbered journal)
+  pub notes : (tells event.what).notice ≡ Some notice
+  pub new_path : is_numbered (numbered_paths told.terms journal) notice.path ≡ false
+  pub many : told.most ≤ length (numbered_paths told.terms journal)
 
 -- the event may come next: it goes on with the turn, and what it asks is asked by the lines
 pub record ComesNext (told : Told) (journal : List Event) (event : Event) : Type 0 where
   pub may : May told.terms journal event.by event.what
-  pub in_turn : InTurns (journal ++ event ∷ [])
+  pub in_turn : InTurns told.terms (journal ++ event ∷ [])
   pub lines : AsksFirst told.bytes (journal ++ event ∷ [])
 
 -- the next event is above the bound, and notes no path too many
@@ -121,13 +111,13 @@ pub record IsFullAt (told : Told) (journal : List Event) (used more : ℕ) : Typ
   pub counted : used ≡ journal_bytes journal
   pub wanted : more ≡ capped (event_bytes event.what)
   pub over : told.limit < used + more
-  pub room : IsOneTooMany told.most journal event → ⊥
+  pub room : IsOneTooMany told journal event → ⊥
 
 -- the next event notes a path too many
 pub record IsCrowdedAt (told : Told) (journal : List Event) : Type 0 where
   pub event : Event
   pub next : ComesNext told journal event
-  pub many : IsOneTooMany told.most journal event
+  pub many : IsOneTooMany told journal event
 
 -- a session that ends with this status ends between two turns
 abbrev pub EndsBetween : Status → Type 0

@@ -1,12 +1,13 @@
 -- Where a session stops, and why.
-use Rattle.std.specs.Prelude.{◌≡◌, ◌<◌, ◌≤◌, ℕ, List, [], ◌∷◌, ◌++◌, None, length}
+use Rattle.std.specs.Prelude.{◌≡◌, ◌<◌, ◌≤◌, ℕ, false, List, [], ◌∷◌, ◌++◌, None, length}
 use Rattle.ci_change.specs.Pending.{latest_number, served_number}
 use Rattle.ci_journal.specs.declared.event.Event.{Event}
 use Rattle.ci_journal.specs.Bytes.{event_bytes}
-use Rattle.ci_journal.specs.Completions.{completed, numbered, numbers_of}
-use Rattle.ci_journal.specs.Folds.{notices}
+use Rattle.ci_journal.specs.Folds.{next_notice, notices, numbered_paths}
 use Rattle.ci_journal.specs.Printed.{lines_of}
+use Rattle.ci_journal.specs.Served.{served_numbers}
 use Rattle.ci_journal.specs.Step.{May}
+use Rattle.ci_journal.specs.Terms.{Terms}
 use Rattle.ci_core.specs.declared.core_fault.CoreFault.{CoreFault}
 use Rattle.ci_core.specs.declared.core_fault.CoreFault.TheVariants.{TooManyDocuments, JournalFull, OutOfMemory, WriteFault, Ended}
 use Rattle.ci_core.specs.Changes.{IsFull}
@@ -15,16 +16,19 @@ use Rattle.ci_core.specs.Fixed.{Fixed, HasFixed, KeepsFixed, PrintsAt}
 use Rattle.ci_core.specs.Refusals.{IsCrowded}
 use Rattle.ci_core.specs.Steps.{Told}
 
--- no step was refused so far: the numbered paths are those that were noted, and no more than may be; and no number of
--- a notice, or of what was filed under it, is above the number of notices
+-- the next notice has a number above those of all notices, and above those under which paths were served
+pub record AreBelowNext (terms : Terms) (events : List Event) : Type 0 where
+  pub latest : (path : List ℕ) → latest_number (notices terms events) path < next_notice terms events
+  pub served : (path : List ℕ) → served_number (served_numbers terms events) path < next_notice terms events
+
+-- no step was refused so far: the numbered paths are those that were noted, and no more than may be; and entries aren't
+-- kept in word lists, so that no shadow comes before one
 pub record IsSound (core : Core) : Type 0 where
   pub unrefused : core.refusal ≡ None
-  pub numbered : core.numbered ≡ numbered core.sheet.events
+  pub numbered : core.numbered ≡ numbered_paths core.terms core.sheet.events
   pub room : length core.numbered ≤ core.most
-  pub latest : (path : List ℕ) →
-      latest_number (notices core.sheet.events) path ≤ length (notices core.sheet.events)
-  pub served : (path : List ℕ) →
-      served_number (numbers_of (completed core.sheet.events)) path ≤ length (notices core.sheet.events)
+  pub below : AreBelowNext core.terms core.sheet.events
+  pub plain : core.terms.in_lists ≡ false
 
 -- what the catalogue was told, and what holds of it ever after, stays
 pub record Remains (old new : Core) : Type 0 where

@@ -1,65 +1,100 @@
--- A session in turns: a request is asked, its steps are made, and it is replied to, before the next one is asked.
-use Rattle.std.specs.Prelude.{◌≡◌, ◌<◌, ◌⊎◌, ℕ, true, List, [], ◌∷◌, ◌++◌}
+-- A session in turns: a request is asked, its steps are made one by one, and it is replied to, before the next one is
+-- asked.
+use Rattle.std.specs.Prelude.{◌≡◌, ◌⊎◌, ℕ, List, [], ◌∷◌, ◌++◌}
 use Rattle.ci_base.specs.declared.numbers.Seq.{Seq}
-use Rattle.ci_change.specs.declared.notice.Notice.{Notice}
+use Rattle.ci_change.specs.declared.notice.What.{What}
 use Rattle.ci_change.specs.declared.notice.What.TheVariants.{Changed, Deleted}
-use Rattle.ci_change.specs.Pending.{ListsByPath}
 use Rattle.ci_chunk.specs.Plain.{plain}
 use Rattle.ci_journal.specs.declared.event.Event.{Event}
-use Rattle.ci_journal.specs.declared.event.Happened.TheVariants.{Asked, Put, Erased, Opened, Answered, Said}
+use Rattle.ci_journal.specs.declared.event.Happened.{Happened}
+use Rattle.ci_journal.specs.declared.event.Happened.TheVariants.{Asked, Noted, Put, Erased, Opened, Answered, Said}
 use Rattle.ci_journal.specs.declared.reply.Reply.{Reply}
-use Rattle.ci_journal.specs.declared.reply.Reply.TheVariants as reply
 use Rattle.ci_journal.specs.declared.request.Request.{Request}
-use Rattle.ci_journal.specs.declared.request.Request.TheVariants.{Changed as ChangedLine, Deleted as DeletedLine, Put as PutLine, Query, Pending, Wait, Quit, Bad, Long}
-use Rattle.ci_journal.specs.Completions.{pending}
-use Rattle.ci_journal.specs.Folds.{is_replied}
-use Rattle.ci_core.specs.Changes.{event, noted}
+use Rattle.ci_journal.specs.declared.request.Request.TheVariants as request
+use Rattle.ci_journal.specs.Queries.{IsAnswer}
+use Rattle.ci_journal.specs.Step.{step_of}
+use Rattle.ci_journal.specs.Tells.{event}
+use Rattle.ci_journal.specs.Terms.{Terms}
+use Rattle.ci_server.specs.Right.{IsRight}
 
--- the one event that replies to a request
-abbrev pub replies : ℕ → Reply → List Event
-replies id said = event 0 (Said id said) ∷ []
+-- ---- which step comes next
 
--- each request with a lesser number has its reply
-abbrev pub AreRepliedBefore : List Event → ℕ → Type 0
-AreRepliedBefore journal id = (earlier : ℕ) → 0 < earlier → earlier < id → is_replied journal earlier ≡ true
+-- the first step notes the path, under some number
+abbrev pub IsNoting : List ℕ → What → List Happened → Happened → Type 0
+IsNoting path kind steps what =
+    (steps ≡ []) × (seq : Seq) × (what ≡ Noted (record { path = path; seq = seq; what = kind }))
 
--- the events behind a request's asking, which is the last event of the journal; its reply is the last of them, and
--- the foreground makes them all
-abbrev pub AreSteps : List Event → ℕ → Request → List Event → Type 0
-AreSteps journal id (ChangedLine path) steps =
-    (seq : Seq) × (steps ≡ noted 0 path seq.0 Changed ∷ replies id reply.Ok)
-AreSteps journal id (DeletedLine path) steps =
-    (seq : Seq) × (steps ≡ noted 0 path seq.0 Deleted ∷ event 0 (Erased path seq) ∷ replies id reply.Ok)
-AreSteps journal id (PutLine path text) steps =
-    (seq : Seq) × (steps ≡ noted 0 path seq.0 Changed ∷ event 0 (Put path seq (plain path text)) ∷ replies id reply.Ok)
-AreSteps journal id (Query text) steps =
-    (at : ℕ) × (paths : List (List ℕ)) × (steps ≡ event 0 (Opened id) ∷ event 0 (Answered id at paths) ∷ [])
-AreSteps journal id Pending steps =
-    (notices : List Notice) × ListsByPath (pending journal) notices × (steps ≡ replies id (reply.Pending notices))
-AreSteps journal id Wait steps = AreRepliedBefore journal id × (steps ≡ replies id reply.Done)
-AreSteps journal id Quit steps = AreRepliedBefore journal id × (steps ≡ replies id reply.Bye)
-AreSteps journal id Bad steps = steps ≡ replies id reply.Bad
-AreSteps journal id Long steps = steps ≡ replies id reply.Long
+-- the path was noted under this number, and nothing was done besides
+abbrev pub HasNoted : List ℕ → What → Seq → List Happened → Type 0
+HasNoted path kind seq steps = steps ≡ Noted (record { path = path; seq = seq; what = kind }) ∷ []
+
+-- behind these steps of the request this is the next one; the requests that aren't here have no steps
+abbrev pub IsNextStep : ℕ → Request → List Happened → Happened → Type 0
+IsNextStep id (request.Changed path) steps what = IsNoting path Changed steps what
+IsNextStep id (request.Deleted path) steps what =
+    IsNoting path Deleted steps what ⊎ ((seq : Seq) × HasNoted path Deleted seq steps × (what ≡ Erased path seq))
+IsNextStep id (request.Put path text) steps what =
+    IsNoting path Changed steps what
+    ⊎ ((seq : Seq) × HasNoted path Changed seq steps × (what ≡ Put path seq (plain path text)))
+IsNextStep id (request.Query text) steps what = (steps ≡ []) × (what ≡ Opened id)
+IsNextStep id _ steps what = ⊥
+
+-- the first steps of a request, which was just asked behind the journal's other events, in order, and the events that
+-- they came to; the foreground makes them all
+pub data Front (terms : Terms) (journal : List Event) (id : ℕ) (request : Request)
+    : List Happened → List Event → Type 0 where
+  Begins : Front terms journal id request [] []
+  Goes : (steps : List Happened) (events : List Event) (what : Happened) →
+      Front terms journal id request steps events → IsNextStep id request steps what →
+      Front terms journal id request (steps ++ what ∷ []) (events ++ step_of terms (journal ++ events) 0 what)
+
+-- ---- what ends a turn
+
+-- the request is replied to, and rightly
+abbrev pub EndsReplied : Terms → List Event → List Event → ℕ → Request → Happened → Type 0
+EndsReplied terms journal events id request what =
+    (said : Reply) × (what ≡ Said id said) × IsRight terms (journal ++ events) events id request said
+
+-- its query, which was opened, is answered
+abbrev pub EndsAnswered : Terms → List Event → ℕ → List Happened → Happened → Type 0
+EndsAnswered terms journal id steps what =
+    (steps ≡ Opened id ∷ []) × (at : ℕ) × (paths : List (List ℕ)) × (what ≡ Answered id at paths)
+    × IsAnswer terms journal id at paths
+
+-- all steps of a request that was just asked, and what ends its turn
+pub record AreSteps (terms : Terms) (journal : List Event) (id : ℕ) (request : Request) (all : List Event)
+    : Type 0 where
+  pub steps : List Happened
+  pub events : List Event
+  pub front : Front terms journal id request steps events
+  pub last : Happened
+  pub ends : EndsReplied terms journal events id request last ⊎ EndsAnswered terms (journal ++ events) id steps last
+  pub events_are : all ≡ events ++ event 0 last ∷ []
+
+-- the first events behind the asking: those of some steps, or the whole turn
+abbrev pub AreFirst : Terms → List Event → ℕ → Request → List Event → Type 0
+AreFirst terms journal id request events =
+    ((steps : List Happened) × Front terms journal id request steps events) ⊎ AreSteps terms journal id request events
+
+-- ---- turns
 
 -- a whole turn behind a journal: the asking, and the steps
-pub record IsTurn (journal : List Event) (id : ℕ) (request : Request) (events : List Event) : Type 0 where
+pub record IsTurn (terms : Terms) (journal : List Event) (id : ℕ) (request : Request) (events : List Event)
+    : Type 0 where
   pub steps : List Event
-  pub made : AreSteps (journal ++ event 0 (Asked id request) ∷ []) id request steps
+  pub made : AreSteps terms (journal ++ event 0 (Asked id request) ∷ []) id request steps
   pub events_are : events ≡ event 0 (Asked id request) ∷ steps
 
--- the first events of a turn behind a journal, which may lack others: none, the asking, or some steps besides
-pub record AreFirst (journal : List Event) (id : ℕ) (request : Request) (steps : List Event) : Type 0 where
-  pub rest : List Event
-  pub made : (steps ≡ []) ⊎ AreSteps journal id request (steps ++ rest)
-
-abbrev pub IsTurnFront : List Event → ℕ → Request → List Event → Type 0
-IsTurnFront journal id request front =
+-- the first events of a turn behind a journal: none, the asking, or some steps besides
+abbrev pub IsTurnFront : Terms → List Event → ℕ → Request → List Event → Type 0
+IsTurnFront terms journal id request front =
     (front ≡ []) ⊎ ((steps : List Event)
-    × AreFirst (journal ++ event 0 (Asked id request) ∷ []) id request steps
+    × AreFirst terms (journal ++ event 0 (Asked id request) ∷ []) id request steps
     × (front ≡ event 0 (Asked id request) ∷ steps))
 
 -- whole turns, one behind the other, of these requests
-pub data Turns : List Event → List Request → Type 0 where
-  None : Turns [] []
+pub data Turns (terms : Terms) : List Event → List Request → Type 0 where
+  None : Turns terms [] []
   Turn : (journal : List Event) (requests : List Request) (id : ℕ) (request : Request) (events : List Event) →
-      Turns journal requests → IsTurn journal id request events → Turns (journal ++ events) (requests ++ request ∷ [])
+      Turns terms journal requests → IsTurn terms journal id request events →
+      Turns terms (journal ++ events) (requests ++ request ∷ [])

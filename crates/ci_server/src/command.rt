@@ -2,12 +2,14 @@ ghost use Rattle.std.specs.Prelude.{◌≡◌, ◌≢◌, ◌↔◌, ◌≤◌, 
 ghost use Rattle.std.specs.Io.KnownBytes.{Appends, IsAtEnd};
 ghost use Rattle.ci_io.specs.Causes.{Rose};
 ghost use Rattle.ci_journal.specs.Bytes.{journal_bytes};
-ghost use Rattle.ci_journal.specs.Completions.{numbered};
-ghost use Rattle.ci_journal.specs.Printed.{printed};
+ghost use Rattle.ci_journal.specs.Folds.{numbered_paths};
+ghost use Rattle.ci_journal.specs.Law.{AllAnswer};
+ghost use Rattle.ci_journal.specs.Printed.{PrintsCut, printed};
 ghost use Rattle.ci_journal.specs.Step.{Run};
-ghost use Rattle.ci_law.specs.Law.{AllAnswer};
+ghost use Rattle.ci_core.specs.Core.{terms_of};
 ghost use Rattle.ci_words.specs.Noise.{standard_noise};
-ghost use Rattle.ci_server.specs.Session.{told_nothing, InTurns, IsWhole, EndsBetween, AsksFirst, AsksAll, AsksBefore, AsksTaken, EndsByQuit, ComesTooLong, PrintsCut, IsFullAt, IsCrowdedAt, EndsWell};
+ghost use Rattle.ci_server.specs.Right.{AllReply};
+ghost use Rattle.ci_server.specs.Session.{told_nothing, InTurns, IsWhole, EndsBetween, AsksFirst, AsksAll, AsksBefore, AsksTaken, EndsByQuit, ComesTooLong, IsFullAt, IsCrowdedAt, EndsWell};
 ghost use Rattle.ci_server.specs.Words.{are_words};
 
 use crate::{Session, Status, run_steps};
@@ -30,10 +32,12 @@ pub fn run<S: Source + Drop, K: Sink + Drop>(
     ensures unwritten { result.status ≡ Status.Usage → result.sink ≡ sink }
 
     // Otherwise the session is that of `run_steps` with the standard settings.
-    ensures run { Run (record { noise = standard_noise }) result.journal.list }
-    ensures answers { AllAnswer (record { noise = standard_noise }) result.journal.list }
-    ensures turns { InTurns result.journal.list }
-    ensures whole { EndsBetween result.status → IsWhole result.journal.list }
+    ensures run { Run (terms_of standard_noise) result.journal.list }
+    ensures answers { AllAnswer (terms_of standard_noise) result.journal.list }
+    ensures replies { AllReply (terms_of standard_noise) result.journal.list }
+    ensures turns { InTurns (terms_of standard_noise) result.journal.list }
+    ensures whole { EndsBetween result.status →
+        IsWhole (terms_of standard_noise) result.journal.list }
 
     ensures lines { AsksFirst (S.left source) result.journal.list }
     ensures all_lines { result.status ≡ Status.Done → AsksAll (S.left source) result.journal.list }
@@ -64,7 +68,8 @@ pub fn run<S: Source + Drop, K: Sink + Drop>(
     ensures endless { result.status ≡ Status.EndlessLine →
         ComesTooLong (S.left source) (S.left result.source) result.journal.list }
     ensures within { journal_bytes result.journal.list ≤ 268435456 }
-    ensures bounded { length (numbered result.journal.list) ≤ 262144 }
+    ensures bounded { length (numbered_paths (terms_of standard_noise) result.journal.list)
+        ≤ 262144 }
 
     // Where no count rose and no bound was met, the session ends well.
     ensures complete { are_words words.now ≡ true →

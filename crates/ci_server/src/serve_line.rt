@@ -1,7 +1,7 @@
 ghost use Rattle.std.specs.Prelude.{◌≡◌, ◌≢◌, ◌+◌, length, OnOk, IfOk, IfErr};
-ghost use Rattle.ci_journal.specs.Folds.{asked};
-ghost use Rattle.ci_journal.specs.Requests.{IsShort, request_of};
-ghost use Rattle.ci_server.specs.Requests.{is_quit};
+ghost use Rattle.ci_io.specs.Reading.{IsShort};
+ghost use Rattle.ci_journal.specs.Folds.{requests_in};
+ghost use Rattle.ci_journal.specs.Requests.{is_quit, request_of};
 ghost use Rattle.ci_server.specs.Served.{IsBetween, ServesTurn, StopsTurn};
 
 use crate::serve_request;
@@ -20,29 +20,13 @@ pub fn serve_line<K: Sink + Drop>(
     requires line { line.now ≢ Line.End }
     requires short { IsShort line.now }
     requires between { IsBetween catalog.old }
-    ensures ok { let id = length (asked catalog.old.sheet.events) + 1 in
+    ensures ok { let id = length (requests_in catalog.old.sheet.events) + 1 in
         OnOk result (ServesTurn catalog.old catalog.new id (request_of line.now)) }
     ensures quits { IfOk result (λ quits. quits ≡ is_quit (request_of line.now)) }
-    ensures err { let id = length (asked catalog.old.sheet.events) + 1 in
+    ensures err { let id = length (requests_in catalog.old.sheet.events) + 1 in
         IfErr result (StopsTurn catalog.old catalog.new id (request_of line.now)) }
 {
     let request = Request::read(alloc, line)?;
     serve_request(alloc, catalog, &request)?;
-    Ok(is_quit(&request))
-}
-
-fn is_quit(request: &Request) -> bool
-    ensures { result ≡ is_quit request.now }
-{
-    match request {
-        Request::Quit => true,
-        Request::Changed(_) => false,
-        Request::Deleted(_) => false,
-        Request::Put { .. } => false,
-        Request::Query(_) => false,
-        Request::Pending => false,
-        Request::Wait => false,
-        Request::Bad => false,
-        Request::Long => false,
-    }
+    Ok(request.is_quit())
 }

@@ -1,4 +1,5 @@
-ghost use Rattle.std.specs.Prelude.{◌≡◌, OnOk, IfErr};
+ghost use Rattle.std.specs.Prelude.{◌≡◌, [], OnOk, IfErr};
+ghost use Rattle.ci_server.specs.Right.{IsRight};
 ghost use Rattle.ci_server.specs.Served.{IsJustAsked, ServesSteps, StopsSteps};
 
 use crate::FOREGROUND;
@@ -37,10 +38,17 @@ pub fn serve_quit<K: Sink + Drop>(catalog: &mut Catalog<K>, id: u64) -> Result<(
     Ok(())
 }
 
-pub fn serve_bad<K: Sink + Drop>(catalog: &mut Catalog<K>, id: u64) -> Result<(), CoreFault>
-    requires { IsJustAsked catalog.old id Request.Bad }
-    ensures ok { OnOk result (ServesSteps catalog.old catalog.new id Request.Bad) }
-    ensures err { IfErr result (StopsSteps catalog.old catalog.new id Request.Bad) }
+/// The request asks for nothing that is served.
+pub fn serve_bad<K: Sink + Drop>(
+    catalog: &mut Catalog<K>,
+    id: u64,
+    request: &Request,
+) -> Result<(), CoreFault>
+    requires asked { IsJustAsked catalog.old id request.now }
+    requires right { IsRight catalog.old.terms catalog.old.sheet.events [] id request.now
+        Reply.Bad }
+    ensures ok { OnOk result (ServesSteps catalog.old catalog.new id request.now) }
+    ensures err { IfErr result (StopsSteps catalog.old catalog.new id request.now) }
 {
     catalog.say(FOREGROUND, id, Reply::Bad)?;
     Ok(())

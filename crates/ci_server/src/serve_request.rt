@@ -1,13 +1,11 @@
-ghost use Rattle.std.specs.Prelude.{◌≡◌, ◌+◌, List, ℕ, length, OnOk, IfErr};
-ghost use Rattle.ci_journal.specs.Folds.{asked};
+ghost use Rattle.std.specs.Prelude.{◌+◌, length, OnOk, IfErr};
+ghost use Rattle.ci_journal.specs.Folds.{requests_in};
 ghost use Rattle.ci_journal.specs.Requests.{IsAskable};
-ghost use Rattle.ci_journal.specs.Step.{MaySay};
-ghost use Rattle.ci_server.specs.Served.{IsBetween, IsJustAsked, WaitsAlone, ServesSteps, StopsSteps, ServesTurn, StopsTurn};
-ghost use Rattle.ci_server.specs.Stops.{IsSound};
+ghost use Rattle.ci_server.specs.Served.{IsBetween, IsJustAsked, ServesSteps, StopsSteps, ServesTurn, StopsTurn};
 
 use crate::{
     FOREGROUND, serve_bad, serve_changed, serve_deleted, serve_long, serve_pending, serve_put,
-    serve_quit, serve_wait,
+    serve_query, serve_quit, serve_wait,
 };
 use ci_core::{Catalog, CoreFault};
 use ci_io::Sink;
@@ -22,9 +20,9 @@ pub fn serve_request<K: Sink + Drop>(
 ) -> Result<(), CoreFault>
     requires askable { IsAskable request.now }
     requires between { IsBetween catalog.old }
-    ensures ok { let id = length (asked catalog.old.sheet.events) + 1 in
+    ensures ok { let id = length (requests_in catalog.old.sheet.events) + 1 in
         OnOk result (ServesTurn catalog.old catalog.new id request.now) }
-    ensures err { let id = length (asked catalog.old.sheet.events) + 1 in
+    ensures err { let id = length (requests_in catalog.old.sheet.events) + 1 in
         IfErr result (StopsTurn catalog.old catalog.new id request.now) }
 {
     let copied = request.copy(alloc)?;
@@ -49,33 +47,20 @@ fn serve_steps<K: Sink + Drop>(
         Request::Changed(path) => serve_changed(catalog, id, path),
         Request::Deleted(path) => serve_deleted(catalog, id, path),
         Request::Put { path, text } => serve_put(alloc, catalog, id, path, text),
-        Request::Query(_) => serve_query(alloc, catalog, id),
+        Request::Query(text) => serve_query(alloc, catalog, id, text),
         Request::Pending => serve_pending(catalog, id),
         Request::Wait => serve_wait(catalog, id),
         Request::Quit => serve_quit(catalog, id),
-        Request::Bad => serve_bad(catalog, id),
         Request::Long => serve_long(catalog, id),
+        Request::Bad => serve_bad(catalog, id, request),
+        // Nothing serves these yet, so they are answered as a line that isn't known.
+        Request::Filter => serve_bad(catalog, id, request),
+        Request::Shadow => serve_bad(catalog, id, request),
+        Request::Master => serve_bad(catalog, id, request),
+        Request::Step => serve_bad(catalog, id, request),
+        Request::Scan => serve_bad(catalog, id, request),
+        Request::Unfiltered => serve_bad(catalog, id, request),
+        Request::Status => serve_bad(catalog, id, request),
+        Request::Load { .. } => serve_bad(catalog, id, request),
     }
-}
-
-// Opens the query, looks its hits up, and answers it. Its text is known to the catalogue.
-fn serve_query<K: Sink + Drop>(
-    alloc: Global,
-    catalog: &mut Catalog<K>,
-    id: u64,
-) -> Result<(), CoreFault>
-    requires sound { IsSound catalog.old }
-    requires unreplied { MaySay catalog.old.sheet.events id }
-    requires waits { WaitsAlone catalog.old.sheet.events id }
-    ensures ok { OnOk result
-        ((text : List ℕ) → ServesSteps catalog.old catalog.new id (Request.Query text)) }
-    ensures err { IfErr result (λ fault.
-        (text : List ℕ) → StopsSteps catalog.old catalog.new id (Request.Query text) fault) }
-{
-    let Some(question) = catalog.open_query(FOREGROUND)? else {
-        unreachable!()
-    };
-    let hits = question.hits(alloc)?;
-    catalog.answer(FOREGROUND, question.id, question.at, hits)?;
-    Ok(())
 }

@@ -2,13 +2,15 @@ ghost use Rattle.std.specs.Prelude.{◌≡◌, ◌≢◌, ◌≤◌, ◌⊎◌, 
 ghost use Rattle.std.specs.Io.KnownBytes.{Appends, IsAtEnd};
 ghost use Rattle.ci_io.specs.Causes.{Rose};
 ghost use Rattle.ci_journal.specs.Bytes.{journal_bytes};
-ghost use Rattle.ci_journal.specs.Completions.{numbered};
-ghost use Rattle.ci_journal.specs.Printed.{printed};
+ghost use Rattle.ci_journal.specs.Folds.{numbered_paths};
+ghost use Rattle.ci_journal.specs.Law.{AllAnswer};
+ghost use Rattle.ci_journal.specs.Printed.{PrintsCut, printed};
 ghost use Rattle.ci_journal.specs.Step.{Run};
-ghost use Rattle.ci_law.specs.Law.{AllAnswer};
+ghost use Rattle.ci_core.specs.Core.{terms_of};
 ghost use Rattle.ci_server.specs.Course.{IsTold};
+ghost use Rattle.ci_server.specs.Right.{AllReply};
 ghost use Rattle.ci_server.specs.Session.{told_of};
-ghost use Rattle.ci_server.specs.Session.{InTurns, IsWhole, EndsBetween, AsksFirst, AsksAll, AsksBefore, AsksTaken, EndsByQuit, ComesTooLong, PrintsCut, IsFullAt, IsCrowdedAt, EndsWell};
+ghost use Rattle.ci_server.specs.Session.{InTurns, IsWhole, EndsBetween, AsksFirst, AsksAll, AsksBefore, AsksTaken, EndsByQuit, ComesTooLong, IsFullAt, IsCrowdedAt, EndsWell};
 
 use crate::{Session, Status, read_lines};
 use ci_core::{Catalog, Settings};
@@ -27,12 +29,16 @@ pub fn run_steps<S: Source + Drop, K: Sink + Drop>(
 ) -> Session<S, K>
     // The journal is a run of steps under the session's noise words, and each answer in it lists
     // the hits at its own point.
-    ensures run { Run (record { noise = settings.now.noise }) result.journal.list }
-    ensures answers { AllAnswer (record { noise = settings.now.noise }) result.journal.list }
+    ensures run { Run (terms_of settings.now.noise) result.journal.list }
+    ensures answers { AllAnswer (terms_of settings.now.noise) result.journal.list }
+
+    // Each reply is right to its request.
+    ensures replies { AllReply (terms_of settings.now.noise) result.journal.list }
 
     // Between a request's asking and its reply stand just its steps, and between turns nothing.
-    ensures turns { InTurns result.journal.list }
-    ensures whole { EndsBetween result.status → IsWhole result.journal.list }
+    ensures turns { InTurns (terms_of settings.now.noise) result.journal.list }
+    ensures whole { EndsBetween result.status →
+        IsWhole (terms_of settings.now.noise) result.journal.list }
 
     // What was asked is what the lines ask for, up to and including the first `quit`.
     ensures lines { AsksFirst (S.left source) result.journal.list }
@@ -72,7 +78,8 @@ pub fn run_steps<S: Source + Drop, K: Sink + Drop>(
 
     // The settings bound the journal at every end.
     ensures within { journal_bytes result.journal.list ≤ settings.now.journal }
-    ensures bounded { length (numbered result.journal.list) ≤ settings.now.documents }
+    ensures bounded { length (numbered_paths (terms_of settings.now.noise) result.journal.list)
+        ≤ settings.now.documents }
 
     // Where no count rose and no bound was met, the session ends well.
     ensures complete { (Rose (S.faults source) (S.faults result.source) → ⊥) →
@@ -93,7 +100,7 @@ fn run_course<S: Source + Drop, K: Sink + Drop>(
     sink: K,
 ) -> Session<S, K>
     ensures { IsTold (record {
-      terms = record { noise = settings.now.noise };
+      terms = terms_of settings.now.noise;
       limit = settings.now.journal;
       most = settings.now.documents;
       bytes = S.left source;

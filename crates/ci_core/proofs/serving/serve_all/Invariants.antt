@@ -1,7 +1,7 @@
 use Rattle.std.proofs.Common.{◌≡◌, ◌+◌, ◌++◌, ℕ, List, true, take, drop, length, All}
 use Rattle.ci_base.specs.declared.numbers.Seq.{Seq}
 use Rattle.ci_documents.specs.Documents.{StandFor, has_place}
-use Rattle.ci_journal.specs.Served.{Served}
+use Rattle.ci_journal.specs.Terms.{Served}
 use Rattle.ci_core.proofs.ServingLemmas.{IsOnTheWay}
 use Rattle.ci_core.proofs.serving.serve_all.Given as goal
 

@@ -2,7 +2,7 @@ use Rattle.std.proofs.Common.{◌∙◌, Some, cond, ap, sym}
 use Rattle.std.specs.BTreeMap.{is_at}
 use Rattle.std.specs.Map.{lookup}
 use Rattle.std.specs.Ordering.{is_eq}
-use Rattle.ci_journal.specs.Served.{path_cmp}
+use Rattle.ci_journal.specs.Terms.{path_cmp}
 use Rattle.ci_documents.proofs.DocumentsLemmas.{KeepsEntries-placed, none-by_test}
 use Rattle.ci_documents.proofs.documents.make_place.Goals as goal
 

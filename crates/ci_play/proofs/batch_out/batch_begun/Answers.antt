@@ -19,7 +19,7 @@ loop-event-preserved c =
     let item = c.event-item.result in
     let more = take_more c.args.journal.now c.loop-event.event-index item c.loop-event-test.true ∙ ap (λ e. before ++ e ∷ []) (sym c.event-item.is) in
     let longer = ap (λ es. begun_as es c.args.number) more in
-    elim c.match-begun_in.branch [
+    elim c.match-batch_in.branch [
       | in-Some+else-batch-number w ↦
           let apart : (w.in-Some.batch.now.number == c.args.number) ≡ false = grind (arith, nat_tests, w.if-batch-number.false) in
           longer ∙ begun_as-apart before item c.args.number w.in-Some.batch.now w.in-Some.ensures apart ∙ c.loop-event.invariant

@@ -1,6 +1,6 @@
 use Rattle.std.proofs.Common.{Contains, take}
 use Rattle.ci_journal.specs.declared.event.Happened.TheVariants.{Begun}
-use Rattle.ci_core.specs.Changes.{event}
+use Rattle.ci_journal.specs.Tells.{event}
 use Rattle.ci_play.proofs.batch_out.is_begun_by.Given as goal
 
 abbrev pub invariant-loop-event : goal.invariant-loop-event

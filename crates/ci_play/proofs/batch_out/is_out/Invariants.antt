@@ -1,5 +1,5 @@
 use Rattle.std.proofs.Common.{◌≡◌, ◌↔◌, true, Contains, take}
-use Rattle.ci_journal.specs.Completions.{out}
+use Rattle.ci_journal.specs.Filings.{out}
 use Rattle.ci_play.proofs.batch_out.is_out.Given as goal
 
 abbrev pub invariant-loop-event : goal.invariant-loop-event

@@ -1,7 +1,9 @@
 use Rattle.std.proofs.Common.{◌≡◌, refl, subst}
-use Rattle.ci_law.proofs.LawLemmas.{AllAnswer-run}
+use Rattle.ci_journal.proofs.LawLemmas.{AllAnswer-run}
+use Rattle.ci_words.specs.Noise.{standard_noise}
 use Rattle.ci_server.specs.Session.{IsCrowdedAt, IsFullAt, Told, told_nothing, told_of}
 use Rattle.ci_server.proofs.CourseLemmas.{run-idle, turns-idle, lines-idle, bounded-idle, quit-idle, within-idle}
+use Rattle.ci_server.proofs.RightLemmas.{AllReply-in_turns}
 use Rattle.ci_server.proofs.command.run.Goals as goal
 
 pub returns-then-not-are_words-clause-run : goal.returns-then-not-are_words-clause-run
@@ -10,14 +12,17 @@ returns-then-not-are_words-clause-run g c = run-idle _ _ c.idle.ensures.journal
 pub returns-then-not-are_words-clause-answers : goal.returns-then-not-are_words-clause-answers
 returns-then-not-are_words-clause-answers g c = AllAnswer-run _ _ (run-idle _ _ c.idle.ensures.journal)
 
+pub returns-then-not-are_words-clause-replies : goal.returns-then-not-are_words-clause-replies
+returns-then-not-are_words-clause-replies g c = AllReply-in_turns _ _ (turns-idle _ _ c.idle.ensures.journal)
+
 pub returns-then-not-are_words-clause-turns : goal.returns-then-not-are_words-clause-turns
-returns-then-not-are_words-clause-turns g c = turns-idle _ c.idle.ensures.journal
+returns-then-not-are_words-clause-turns g c = turns-idle _ _ c.idle.ensures.journal
 
 pub returns-then-not-are_words-clause-lines : goal.returns-then-not-are_words-clause-lines
 returns-then-not-are_words-clause-lines g c = lines-idle _ _ c.idle.ensures.journal
 
 pub returns-then-not-are_words-clause-bounded : goal.returns-then-not-are_words-clause-bounded
-returns-then-not-are_words-clause-bounded g c = bounded-idle _ _ c.idle.ensures.journal
+returns-then-not-are_words-clause-bounded g c = bounded-idle standard_noise _ _ c.idle.ensures.journal
 
 pub returns-in-Err-clause-run : goal.returns-in-Err-clause-run
 returns-in-Err-clause-run g c = run-idle _ _ c.idle-in-Err.ensures.journal
@@ -25,14 +30,17 @@ returns-in-Err-clause-run g c = run-idle _ _ c.idle-in-Err.ensures.journal
 pub returns-in-Err-clause-answers : goal.returns-in-Err-clause-answers
 returns-in-Err-clause-answers g c = AllAnswer-run _ _ (run-idle _ _ c.idle-in-Err.ensures.journal)
 
+pub returns-in-Err-clause-replies : goal.returns-in-Err-clause-replies
+returns-in-Err-clause-replies g c = AllReply-in_turns _ _ (turns-idle _ _ c.idle-in-Err.ensures.journal)
+
 pub returns-in-Err-clause-turns : goal.returns-in-Err-clause-turns
-returns-in-Err-clause-turns g c = turns-idle _ c.idle-in-Err.ensures.journal
+returns-in-Err-clause-turns g c = turns-idle _ _ c.idle-in-Err.ensures.journal
 
 pub returns-in-Err-clause-lines : goal.returns-in-Err-clause-lines
 returns-in-Err-clause-lines g c = lines-idle _ _ c.idle-in-Err.ensures.journal
 
 pub returns-in-Err-clause-bounded : goal.returns-in-Err-clause-bounded
-returns-in-Err-clause-bounded g c = bounded-idle _ _ c.idle-in-Err.ensures.journal
+returns-in-Err-clause-bounded g c = bounded-idle standard_noise _ _ c.idle-in-Err.ensures.journal
 
 pub returns-then-not-are_words-clause-within : goal.returns-then-not-are_words-clause-within
 returns-then-not-are_words-clause-within g c = within-idle _ _ c.idle.ensures.journal

@@ -1,5 +1,5 @@
 use Rattle.std.proofs.Common.{sym}
-use Rattle.ci_server.proofs.LineLemmas.{GoesOn-served, IsShort-given, StopsAt-step, StopsAt-unread, StopsIn-line}
+use Rattle.ci_server.proofs.LineLemmas.{GoesOn-served, StopsAt-step, StopsAt-unread, StopsIn-line}
 use Rattle.ci_server.proofs.read_lines.next_line.Goals as goal
 
 pub returns-in-Err-clause-err : goal.returns-in-Err-clause-err
@@ -14,9 +14,6 @@ returns-in-Err-clause-err g c =
       too_long = λ is. e.too_long (let h = is in cc);
       endless_before_end = λ is. e.endless_before_end (let h = is in cc);
     }))
-
-pub serve_line-requires-clause-short : goal.serve_line-requires-clause-short
-serve_line-requires-clause-short g c = IsShort-given c.in-Ok.line c.in-Ok.ensures.short
 
 pub returns-in-Ok-serve_line-clause-ok : goal.returns-in-Ok-serve_line-clause-ok
 returns-in-Ok-serve_line-clause-ok g c =

@@ -1,28 +1,30 @@
-use Rattle.std.proofs.Common.{[], inl, refl}
+use Rattle.std.proofs.Common.{[], inl, inr, refl}
 use Rattle.std.proofs.lemmas.Result.{err_from_is_err_and}
 use Rattle.ci_journal.specs.declared.event.Happened.TheVariants.{Said}
 use Rattle.ci_journal.specs.declared.reply.Reply.TheVariants as reply
 use Rattle.ci_journal.specs.declared.request.Request.TheVariants as request
-use Rattle.ci_core.specs.Changes.{event}
+use Rattle.ci_journal.specs.Tells.{event}
 use Rattle.ci_server.proofs.DocumentLemmas.{replied-serves}
+use Rattle.ci_server.specs.Turns.Front.{Begins}
+use Rattle.ci_server.proofs.FrontLemmas.{whole-alone}
 use Rattle.ci_server.proofs.StepsLemmas.{IsAt-none, steps-starve, steps-stop}
 use Rattle.ci_server.proofs.serve_reply.serve_pending.Goals as goal
 
 pub returns-in_err-notices-clause-err : goal.returns-in_err-notices-clause-err
 returns-in_err-notices-clause-err g c =
     let p = err_from_is_err_and c.from_residual.result c.from_residual.ensures.1 in
-    rw (p.1, p.2) (steps-starve c.args.catalog.now c.args.id request.Pending _ [] (IsAt-none _ c.requires.sound) (record { rest = []; made = inl refl }))
+    rw (p.1, p.2) (steps-starve c.args.catalog.now c.args.id request.Pending _ [] (IsAt-none _ c.requires.sound) (inl ([], Begins)))
 
 pub returns-in_err-say-clause-err : goal.returns-in_err-say-clause-err
 returns-in_err-say-clause-err g c =
     let p = err_from_is_err_and c.from_residual-in_err-say.result c.from_residual-in_err-say.ensures.1 in
     let notices = c.in_ok-notices.notices in
     let refused = c.in_err-say.ensures in
-    rw (p.1, p.2) (steps-stop c.args.catalog.now c.args.id request.Pending _ _ [] (event 0 (Said c.args.id (reply.Pending notices))) [] _
-    (IsAt-none _ c.requires.sound) (notices, c.in_ok-notices.ensures, refl) refused.refused refused.fixed (inl refl))
+    rw (p.1, p.2) (steps-stop c.args.catalog.now c.args.id request.Pending _ _ [] (event 0 (Said c.args.id (reply.Pending notices))) _
+    (IsAt-none _ c.requires.sound) (inl ([], Begins)) (inr (whole-alone _ _ c.args.id request.Pending (reply.Pending notices) (notices, refl, c.in_ok-notices.ensures))) refused.refused refused.fixed (inl refl))
 
 pub returns-clause-ok : goal.returns-clause-ok
 returns-clause-ok g c =
     let notices = c.in_ok-notices.notices in
     let s = c.in_ok-say.ensures in
-    replied-serves _ _ _ c.args.id request.Pending (reply.Pending notices) [] (IsAt-none _ c.requires.sound) s.ok s.unrefused s.fixed (notices, c.in_ok-notices.ensures, refl)
+    replied-serves _ _ _ c.args.id request.Pending (reply.Pending notices) [] (IsAt-none _ c.requires.sound) s.ok s.unrefused s.fixed (whole-alone _ _ c.args.id request.Pending (reply.Pending notices) (notices, refl, c.in_ok-notices.ensures))

@@ -1,7 +1,7 @@
 use Rattle.std.proofs.Common.{refl}
 use Rattle.std.proofs.lemmas.Result.{err_from_is_err_and}
 use Rattle.ci_journal.specs.declared.event.Happened.TheVariants.{Asked}
-use Rattle.ci_core.specs.Changes.{event}
+use Rattle.ci_journal.specs.Tells.{event}
 use Rattle.ci_server.proofs.StepLemmas.{step-quiet}
 use Rattle.ci_server.proofs.TurnLemmas.{turn-halts, turn-starves, turn-serves, turn-stops, just-asked}
 use Rattle.ci_server.proofs.serve_request.serve_request.Goals as goal
@@ -20,19 +20,19 @@ returns-in_err-id-clause-err g c =
 pub serve_steps-requires-clause-asked : goal.serve_steps-requires-clause-asked
 serve_steps-requires-clause-asked g c =
     let a = c.in_ok-id.ensures in
-    let step = step-quiet _ _ (event 0 (Asked c.in_ok-id.id c.in_ok-copied.copied)) c.requires.between.sound a.ok a.unrefused a.fixed refl (λ _. refl) in
-    just-asked _ c.args.request.now c.requires.between _ c.in_ok-id.id c.in_ok-copied.copied a.id c.in_ok-copied.ensures step a.unreplied a.waits
+    let step = step-quiet _ _ (event 0 (Asked c.in_ok-id.id c.in_ok-copied.copied)) c.requires.between.sound a.ok a.unrefused a.fixed refl refl in
+    just-asked _ c.args.request.now c.requires.between _ c.in_ok-id.id c.in_ok-copied.copied a.id c.in_ok-copied.ensures step a.unreplied a.unopened
 
 pub returns-in_err-serve_steps-clause-err : goal.returns-in_err-serve_steps-clause-err
 returns-in_err-serve_steps-clause-err g c =
     let p = err_from_is_err_and c.from_residual-in_err-serve_steps.result c.from_residual-in_err-serve_steps.ensures.1 in
     let a = c.in_ok-id.ensures in
-    let step = step-quiet _ _ (event 0 (Asked c.in_ok-id.id c.in_ok-copied.copied)) c.requires.between.sound a.ok a.unrefused a.fixed refl (λ _. refl) in
+    let step = step-quiet _ _ (event 0 (Asked c.in_ok-id.id c.in_ok-copied.copied)) c.requires.between.sound a.ok a.unrefused a.fixed refl refl in
     rw (p.1, p.2) (turn-stops _ c.args.request.now c.requires.between _ c.in_ok-id.id c.in_ok-copied.copied a.id c.in_ok-copied.ensures step _ _ c.in_err-serve_steps.ensures.err)
 
 pub returns-clause-ok : goal.returns-clause-ok
 returns-clause-ok g c =
     let a = c.in_ok-id.ensures in
-    let step = step-quiet _ _ (event 0 (Asked c.in_ok-id.id c.in_ok-copied.copied)) c.requires.between.sound a.ok a.unrefused a.fixed refl (λ _. refl) in
-    let just = just-asked _ c.args.request.now c.requires.between _ c.in_ok-id.id c.in_ok-copied.copied a.id c.in_ok-copied.ensures step a.unreplied a.waits in
+    let step = step-quiet _ _ (event 0 (Asked c.in_ok-id.id c.in_ok-copied.copied)) c.requires.between.sound a.ok a.unrefused a.fixed refl refl in
+    let just = just-asked _ c.args.request.now c.requires.between _ c.in_ok-id.id c.in_ok-copied.copied a.id c.in_ok-copied.ensures step a.unreplied a.unopened in
     turn-serves _ c.args.request.now c.requires.between _ c.in_ok-id.id c.in_ok-copied.copied a.id c.in_ok-copied.ensures step _ just c.in_ok-serve_steps.ensures.ok

@@ -2,14 +2,14 @@ use Rattle.std.proofs.Common.{◌≡◌, ◌∙◌, length, ap, sym, subst}
 use Rattle.ci_base.specs.declared.numbers.Seq.{Seq}
 use Rattle.ci_journal.specs.declared.event.Happened.TheVariants.{Erased}
 use Rattle.ci_journal.specs.Step.{MayErase}
-use Rattle.ci_core.specs.Changes.{event}
+use Rattle.ci_journal.specs.Tells.{event}
 use Rattle.ci_core.specs.Core.{Core}
 use Rattle.ci_core.proofs.CatalogLemmas.{IsCatalog-step, IsStep, Rests-refl, told-as}
 use Rattle.ci_core.proofs.catalog.Catalog.erase.Goals as goal
 
 pub returns-in_default-clause-ok : goal.returns-in_default-clause-ok
 returns-in_default-clause-ok g c =
-    (subst (λ (core : Core). (seq : Seq) → ¬ MayErase core.sheet.events c.args.path.now seq) c.self.view_is c.in_default.ensures.none, Rests-refl c.args.self.now)
+    (subst (λ (core : Core). (seq : Seq) → ¬ MayErase core.terms core.sheet.events c.args.path.now seq) c.self.view_is c.in_default.ensures.none, Rests-refl c.args.self.now)
 
 pub invariant_of-self-2 : goal.invariant_of-self-2
 invariant_of-self-2 g c =

@@ -1,7 +1,7 @@
 use Rattle.std.proofs.Common.{◌≡◌, ◌∙◌, length, ap, sym, subst, refl}
 use Rattle.ci_journal.specs.declared.event.Happened.TheVariants.{BatchDone}
 use Rattle.ci_core.specs.Batches.{CanFinish}
-use Rattle.ci_core.specs.Changes.{event}
+use Rattle.ci_journal.specs.Tells.{event}
 use Rattle.ci_core.specs.Core.{Core}
 use Rattle.ci_core.proofs.CatalogLemmas.{IsCatalog-step, IsStep, told-as}
 use Rattle.ci_core.proofs.catalog.Catalog.finish_batch.Goals as goal
@@ -13,7 +13,7 @@ invariant_of-self g c =
     let may = subst (λ (core : Core). CanFinish core.sheet.events c.args.by c.args.batch.now c.args.outcomes) (sym c.self.view_is) c.requires.may in
     let step : IsStep old c.finish-made.new.self c.self.inside.refusal (event c.args.by (BatchDone c.args.batch.now.number c.args.outcomes)) c.finish-made.result c.keep.new.refusal = record {
       unrefused = ap (λ (core : Core). core.refusal) c.self.view_is ∙ c.in_ok-at.ensures.unrefused;
-      may = record { batch = c.args.batch.now; is_out = may.is_out; numbered = refl; own = may.own; each = may.each };
+      may = (c.args.batch.now, record { is_out = may.is_out; numbered = refl; own = may.own }, may.each);
       ok = c.finish-made.ensures.ok;
       err = c.finish-made.ensures.refused;
       kept = c.keep.ensures.ok;

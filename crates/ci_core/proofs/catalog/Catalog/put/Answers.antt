@@ -2,7 +2,7 @@ use Rattle.std.proofs.Common.{◌≡◌, ◌∙◌, length, ap, sym, subst}
 use Rattle.ci_change.specs.declared.notice.What.TheVariants.{Changed}
 use Rattle.ci_journal.specs.declared.event.Happened.TheVariants.{Put}
 use Rattle.ci_journal.specs.Step.{MayPut}
-use Rattle.ci_core.specs.Changes.{event}
+use Rattle.ci_journal.specs.Tells.{event}
 use Rattle.ci_core.specs.Core.{Core}
 use Rattle.ci_core.proofs.CatalogLemmas.{IsCatalog-step, IsStep, told-as}
 use Rattle.ci_core.proofs.catalog.Catalog.put.Goals as goal
@@ -13,7 +13,7 @@ invariant_of-self g c =
     let place : c.in_ok-at.at ≡ length old.sheet.events = c.in_ok-at.ensures.at ∙ ap (λ (core : Core). length core.sheet.events) (sym c.self.view_is) in
     let step : IsStep old c.put-made.new.self c.self.inside.refusal (event c.args.by (Put c.args.path.now c.args.seq c.args.transcript)) c.put-made.result c.keep.new.refusal = record {
       unrefused = ap (λ (core : Core). core.refusal) c.self.view_is ∙ c.in_ok-at.ensures.unrefused;
-      may = subst (λ (core : Core). MayPut core.sheet.events c.args.by (record { path = c.args.path.now; seq = c.args.seq; what = Changed })) (sym c.self.view_is) c.requires.may;
+      may = subst (λ (core : Core). MayPut core.terms core.sheet.events c.args.by (record { path = c.args.path.now; seq = c.args.seq; what = Changed })) (sym c.self.view_is) c.requires.may;
       ok = c.put-made.ensures.ok;
       err = c.put-made.ensures.refused;
       kept = c.keep.ensures.ok;

@@ -1,7 +1,7 @@
 use Rattle.std.proofs.Common.{◌≡◌, ◌∙◌, length, ap, sym, subst}
 use Rattle.ci_journal.specs.declared.event.Happened.TheVariants.{Said}
 use Rattle.ci_journal.specs.Step.{MaySay}
-use Rattle.ci_core.specs.Changes.{event}
+use Rattle.ci_journal.specs.Tells.{event}
 use Rattle.ci_core.specs.Core.{Core}
 use Rattle.ci_core.proofs.CatalogLemmas.{IsCatalog-step, IsStep, told-as}
 use Rattle.ci_core.proofs.catalog.Catalog.say.Goals as goal

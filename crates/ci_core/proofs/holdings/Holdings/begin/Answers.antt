@@ -1,9 +1,12 @@
 use Rattle.std.proofs.Common.{arith, ◌∙◌, ap, refl, subst, sym}
-use Rattle.ci_journal.proofs.RunLemmas.{begun_within}
+use Rattle.ci_journal.proofs.ChainLemmas.{Chain-run}
+use Rattle.ci_journal.proofs.RunLemmas.{batches_within}
+use Rattle.ci_core.specs.Core.{terms_of}
 use Rattle.ci_journal.specs.declared.event.Happened.TheVariants.{Begun}
 use Rattle.ci_change.specs.HandedIn.{without_batch}
 use Rattle.ci_core.specs.Batches.{IsNextBatch}
-use Rattle.ci_core.specs.Changes.{Adds, event}
+use Rattle.ci_journal.specs.Tells.{event}
+use Rattle.ci_core.specs.Changes.{Adds}
 use Rattle.ci_core.proofs.BatchLemmas.{begun-kept, free_is, given_back, none-when, some-when, taken-next}
 use Rattle.ci_core.proofs.BeginningLemmas.{HaltsBeginning-of}
 use Rattle.ci_core.proofs.ChangesLemmas.{Adds-prepared}
@@ -14,7 +17,7 @@ use Rattle.ci_core.proofs.holdings.Holdings.begin.Goals as goal
 pub overflow_add-number : goal.overflow_add-number
 overflow_add-number g c =
     let kept = c.self.invariant.1 in
-    omega (arith, begun_within _ _ kept.run, kept.counts.begun, kept.within, kept.small)
+    omega (arith, batches_within _ _ (Chain-run _ _ kept.run), kept.counts.begun, kept.within, kept.small)
 
 pub returns-then-is_empty-clause-ok : goal.returns-then-is_empty-clause-ok
 returns-then-is_empty-clause-ok g c =
@@ -24,11 +27,11 @@ returns-then-is_empty-clause-ok g c =
       record { stays = Stays-refl _; told = record { terms = refl; most = refl }; numbered = refl },
     )
 
-next : (g : _) (c : goal.After-add g) → IsNextBatch c.self.inside.book.events c.args.max c.in_ok-batch.batch
+next : (g : _) (c : goal.After-add g) → IsNextBatch (terms_of c.self.inside.noise) c.self.inside.book.events c.args.max c.in_ok-batch.batch
 next g c =
     taken-next _ _ _ c.self.invariant.1 c.args.max c.in_ok-batch.batch c.in_ok-batch.ensures.batch (some-when _ c.items.result.now c.items.ensures c.if-is_empty.ensures)
 
-next_refused : (g : _) (c : goal.After-drop-batch-in-Err-1 g) → IsNextBatch c.self.inside.book.events c.args.max c.in_ok-batch.batch
+next_refused : (g : _) (c : goal.After-drop-batch-in-Err-1 g) → IsNextBatch (terms_of c.self.inside.noise) c.self.inside.book.events c.args.max c.in_ok-batch.batch
 next_refused g c =
     taken-next _ _ _ c.self.invariant.1 c.args.max c.in_ok-batch.batch c.in_ok-batch.ensures.batch (some-when _ c.items.result.now c.items.ensures c.if-is_empty.ensures)
 

@@ -8,7 +8,7 @@ use Rattle.ci_core.proofs.holdings.Holdings.deletion.Goals as goal
 pub returns-in-Some-default-Deleted-clause-some : goal.returns-in-Some-default-Deleted-clause-some
 returns-in-Some-default-Deleted-clause-some g c =
     let kind = c.in-Some-default-Deleted.ensures in
-    rw (← c.self.view_is) (pending-is _ _ c.self.invariant.1.tracks c.args.path.now c.in-Some-default-Deleted.seq _ (rw c.in-Some-default-Deleted.field-0-1-is at kind))
+    rw (← c.self.view_is) (pending-is _ _ _ c.self.invariant.1.tracks c.args.path.now c.in-Some-default-Deleted.seq _ (rw c.in-Some-default-Deleted.field-0-1-is at kind))
 
 abbrev kind_of : Option (Seq × What) → Option What
 kind_of None = None
@@ -22,9 +22,9 @@ none_apart kind s none e = cc
 
 pub returns-in-Some-default-Changed-clause-none : goal.returns-in-Some-default-Changed-clause-none
 returns-in-Some-default-Changed-clause-none g c seq =
-    rw (← c.self.view_is) (pending-other _ _ c.self.invariant.1.tracks c.args.path.now seq (Some (c.in-Some-default-Changed.field-0-0, c.in-Some-default-Changed.field-0-1)) c.in-Some-default-Changed.ensures
+    rw (← c.self.view_is) (pending-other _ _ _ c.self.invariant.1.tracks c.args.path.now seq (Some (c.in-Some-default-Changed.field-0-0, c.in-Some-default-Changed.field-0-1)) c.in-Some-default-Changed.ensures
     (λ s e. changed_apart _ s (ap Some c.in-Some-default-Changed.field-0-1-is) e))
 
 pub returns-in-None-clause-none : goal.returns-in-None-clause-none
 returns-in-None-clause-none g c seq =
-    rw (← c.self.view_is) (pending-other _ _ c.self.invariant.1.tracks c.args.path.now seq None c.in-None.ensures (λ s e. none_apart None s refl e))
+    rw (← c.self.view_is) (pending-other _ _ _ c.self.invariant.1.tracks c.args.path.now seq None c.in-None.ensures (λ s e. none_apart None s refl e))

@@ -1,6 +1,6 @@
 use Rattle.std.proofs.Common.{◌≡◌, ◌∙◌, ◌++◌, All, ap, map, subst, sym, true}
 use Rattle.ci_change.specs.HandedIn.{HandedIn}
-use Rattle.ci_journal.specs.Served.{Served}
+use Rattle.ci_journal.specs.Terms.{Served}
 use Rattle.ci_core.specs.Batches.{CanFinish}
 use Rattle.ci_core.specs.Core.{Core}
 use Rattle.ci_core.specs.Serving.{entry_from, serve_entries}

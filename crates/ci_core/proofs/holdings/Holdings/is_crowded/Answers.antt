@@ -1,5 +1,5 @@
 use Rattle.std.proofs.Common.{◌≡◌, ◌∙◌, ◌&&◌, not, nat_le, length, subst}
-use Rattle.ci_journal.specs.Completions.{is_numbered}
+use Rattle.ci_journal.specs.Folds.{is_numbered}
 use Rattle.ci_core.specs.Core.{Core}
 use Rattle.ci_core.proofs.NumbersLemmas.{crowds-known, crowds-new}
 use Rattle.ci_core.proofs.holdings.Holdings.is_crowded.Goals as goal

@@ -1,8 +1,9 @@
 use Rattle.std.proofs.Common.{arith, Err, ◌≡◌, ◌∙◌, ◌+◌, ◌&&◌, false, length, nat_le, not, ap, refl, subst, sym}
 use Rattle.std.proofs.lemmas.Result.{err_from_is_err_and}
 use Rattle.ci_paths.specs.Numbering.{Numbering}
+use Rattle.ci_journal.proofs.ChainLemmas.{Chain-run}
 use Rattle.ci_journal.proofs.RunLemmas.{notices_within}
-use Rattle.ci_journal.specs.Completions.{is_numbered}
+use Rattle.ci_journal.specs.Folds.{is_numbered}
 use Rattle.ci_core.specs.Changes.{Adds, noted}
 use Rattle.ci_core.specs.Core.{Core}
 use Rattle.ci_core.proofs.ChangesLemmas.{Adds-prepared}
@@ -21,7 +22,7 @@ returns-then-is_crowded-clause-refused g c =
 pub overflow_add-seq : goal.overflow_add-seq
 overflow_add-seq g c =
     let kept = c.self.invariant.1 in
-    omega (arith, notices_within _ _ kept.run, kept.counts.noted, kept.within, kept.small)
+    omega (arith, notices_within _ _ (Chain-run _ _ kept.run), kept.counts.noted, kept.within, kept.small)
 
 pub invariant_of-self : goal.invariant_of-self
 invariant_of-self g c =
@@ -45,7 +46,7 @@ returns-in_err-number-clause-refused g c =
 
 pub note-requires : goal.note-requires
 note-requires g c =
-    notices_below _ _ c.self.invariant.1.run _ c.self.invariant.1.tracks.notices _ (omega (arith, c.self.invariant.1.counts.noted))
+    notices_below _ c.self.invariant.1.starts _ c.self.invariant.1.run _ c.self.invariant.1.tracks.notices _ (omega (arith, c.self.invariant.1.counts.noted))
 
 pub invariant_of-self-in_err-note : goal.invariant_of-self-in_err-note
 invariant_of-self-in_err-note g c = (

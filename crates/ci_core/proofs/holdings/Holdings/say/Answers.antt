@@ -1,7 +1,8 @@
 use Rattle.std.proofs.Common.{arith, subst, sym}
 use Rattle.ci_journal.specs.Step.{MaySay}
 use Rattle.ci_core.specs.Core.{Core}
-use Rattle.ci_core.proofs.AskingLemmas.{replied_within}
+use Rattle.ci_journal.proofs.ChainLemmas.{Chain-run}
+use Rattle.ci_core.proofs.AskingLemmas.{replies_within}
 use Rattle.ci_core.proofs.KeptLemmas.{IsHolding-moved, IsHolding-stays, LacksRoom-stays}
 use Rattle.ci_core.proofs.StepLemmas.{said-kept}
 use Rattle.ci_core.proofs.holdings.Holdings.say.Goals as goal
@@ -13,7 +14,7 @@ invariant_of-self g c =
 pub overflow_add-self : goal.overflow_add-self
 overflow_add-self g c =
     let kept = c.self.invariant.1 in
-    omega (arith, replied_within _ _ kept.run, kept.counts.replies, kept.within, kept.small)
+    omega (arith, replies_within _ _ (Chain-run _ _ kept.run), kept.counts.replies, kept.within, kept.small)
 
 pub invariant_of-self-in_err-write : goal.invariant_of-self-in_err-write
 invariant_of-self-in_err-write g c =

@@ -3,8 +3,9 @@ use Rattle.std.proofs.lemmas.List.{nil_from_length}
 use Rattle.std.proofs.lemmas.List.Elements.{All-rest}
 use Rattle.std.specs.Iterator.Adapters.{zip_first, zip_second}
 use Rattle.std.specs.Slice.Iter.{iter_rest}
+use Rattle.ci_core.specs.Core.{terms_of}
 use Rattle.ci_core.specs.Serving.{IsIndexable}
-use Rattle.ci_journal.specs.Served.{Served}
+use Rattle.ci_journal.specs.Terms.{Served}
 use Rattle.ci_play.specs.Replay.{Tells}
 use Rattle.ci_play.proofs.ReplayLemmas.{served-all, served-next, served-none}
 use Rattle.ci_play.proofs.replay.Replay.finish.Goals as goal
@@ -15,7 +16,7 @@ loop-path-init c =
     let outcomes : iter_rest (zip_second c.into_iter-path-iterator.result) ≡ c.args.outcomes.now = search rules in
     record {
       indexable = subst (All IsIndexable) (sym outcomes) c.requires;
-      comes = λ served tells. (served, tells, served-none _ served _ _ _ _ docs outcomes);
+      comes = λ served tells. (served, tells, served-none (terms_of c.args.noise.now) served _ _ _ _ docs outcomes);
     }
 
 pub loop-path-preserved : goal.loop-path-preserved
@@ -25,7 +26,7 @@ loop-path-preserved c =
       indexable = All-rest IsIndexable _ _ _ steps.1 c.loop-path.invariant.indexable;
       comes = λ served tells.
           let mid = c.loop-path.invariant.comes served tells in
-          (_, c.in_ok-settle.ensures mid.0 mid.1, served-next _ mid.0 _ _ _ _ _ _ steps.0 steps.1 ∙ mid.2);
+          (_, c.in_ok-settle.ensures mid.0 mid.1, served-next (terms_of c.args.noise.now) mid.0 _ _ _ _ _ _ steps.0 steps.1 ∙ mid.2);
     }
 
 pub returns : goal.returns
@@ -34,4 +35,4 @@ returns c served tells =
     let mid = c.loop-path.invariant.comes served tells in
     let none : (iter_rest (zip_first c.loop-path.path-iterator) ≡ []) ⊎ (iter_rest (zip_second c.loop-path.path-iterator) ≡ []) =
     ⊎_elim (λ docs. inl (nil_from_length _ docs.1.0)) (λ outcomes. inr (nil_from_length _ outcomes.1.0)) steps in
-    subst (λ (s : Served). Tells s c.loop-path.self) (served-all _ mid.0 _ _ none ∙ mid.2) mid.1
+    subst (λ (s : Served). Tells s c.loop-path.self) (served-all (terms_of c.args.noise.now) mid.0 _ _ none ∙ mid.2) mid.1

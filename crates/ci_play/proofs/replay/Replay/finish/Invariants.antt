@@ -2,8 +2,11 @@ use Rattle.std.proofs.Common.{◌≡◌, fold, All}
 use Rattle.std.specs.Iterator.Adapters.{zip_first, zip_second}
 use Rattle.std.specs.Slice.Iter.{iter_rest}
 use Rattle.ci_core.specs.Serving.{IsIndexable}
-use Rattle.ci_journal.specs.Completions.{completions_of}
-use Rattle.ci_journal.specs.Served.{Served, serve}
+use Rattle.ci_core.specs.Core.{terms_of}
+use Rattle.ci_journal.specs.Filings.{fates_at_end}
+use Rattle.ci_journal.specs.Served.{serve}
+use Rattle.ci_journal.specs.Tells.Ending.{Through}
+use Rattle.ci_journal.specs.Terms.{Served}
 use Rattle.ci_play.specs.Replay.{Tells}
 use Rattle.ci_play.proofs.replay.Replay.finish.Given as goal
 
@@ -14,5 +17,5 @@ invariant-loop-path l =
     record {
       indexable : All IsIndexable outcomes;
       comes : (served : Served) → Tells served l.initial.self → (mid : Served) × Tells mid l.self
-          × (fold (serve (record { noise = l.noise })) mid (completions_of docs outcomes) ≡ fold (serve (record { noise = l.noise })) served (completions_of l.docs l.outcomes));
+          × (fold (serve (terms_of l.noise)) mid (fates_at_end docs (Through outcomes)) ≡ fold (serve (terms_of l.noise)) served (fates_at_end l.docs (Through l.outcomes)));
     }

@@ -1,7 +1,0 @@
-use Rattle.std.proofs.Common.{◌≡◌, take}
-use Rattle.std.specs.Option.{option_map}
-use Rattle.ci_journal.specs.Folds.{latest}
-use Rattle.ci_play.proofs.latest.latest.Given as goal
-
-abbrev pub invariant-loop-event : goal.invariant-loop-event
-invariant-loop-event l = option_map (λ n. (n.seq, n.what)) (latest (take l.event-index l.events) l.path) ≡ l.found
