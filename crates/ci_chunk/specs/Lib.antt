@@ -1,3 +1,4 @@
 pub mod Plain
+pub mod Sizes
 pub mod Statuses
 pub mod Talk

@@ -8,6 +8,7 @@ mod piece;
 mod status;
 mod talk;
 mod transcript;
+mod transcript_fault;
 
 pub use chunk::{Break, ChunkState, StatChunk};
 pub use filter::Filter;
@@ -16,3 +17,4 @@ pub use piece::Piece;
 pub use status::Status;
 pub use talk::{Answer, Call, FilterStop};
 pub use transcript::Transcript;
+pub use transcript_fault::TranscriptFault;

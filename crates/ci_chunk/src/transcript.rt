@@ -1,7 +1,8 @@
-ghost use Rattle.std.specs.Prelude.{◌≡◌, ◌++◌, [], ◌∷◌, IfOk, OnOk, OnErr};
+ghost use Rattle.std.specs.Prelude.{◌≡◌, ◌++◌, ◌<◌, ◌↔◌, [], ◌∷◌, length, IfOk, IsErrOf, OnOk, OnErr};
 ghost use Rattle.ci_chunk.specs.Plain.{paragraph, plain};
+ghost use Rattle.ci_chunk.specs.Sizes.{IsBounded, piece_length};
 
-use crate::{Break, ChunkState, Piece, StatChunk};
+use crate::{Break, ChunkState, Piece, StatChunk, TranscriptFault};
 use ci_base::{OutOfMemory, PathText, PropNo, Text, Value};
 use std::alloc::Global;
 use std::marker::Model;
@@ -12,19 +13,31 @@ const FILENAME: PropNo = PropNo(2);
 
 const SIZE: PropNo = PropNo(3);
 
-/// What a filter said of a whole document, chunk by chunk. Contracts see the list of its pieces.
+/// The most pieces: a document has at most so many chunks.
+const PIECES_MOST: usize = 65_536;
+
+/// The most bytes of all texts.
+const TEXT_MOST: usize = 1_048_576;
+
+/// What a filter said of a whole document, chunk by chunk: at most 65,536 pieces, with at most
+/// 1,048,576 bytes of text. Contracts see the list of its pieces.
 #[derive(Debug, Drop)]
 pub struct Transcript {
     pieces: Vec<Piece>,
+    /// The bytes of all texts.
+    text: usize,
 }
 
 impl Model for Transcript {
-    ghost use Rattle.std.specs.Prelude.{List};
+    ghost use Rattle.std.specs.Prelude.{◌≡◌, List};
+    ghost use Rattle.ci_chunk.specs.Sizes.{IsBounded, text_length};
     ghost use Rattle.ci_chunk.specs.declared.piece.Piece.{Piece};
 
     ghost Value = { List Piece };
 
     ghost view = { λ t. t.pieces.items };
+
+    ghost invariant = { λ t. (t.text ≡ text_length t.pieces.items) × IsBounded t.pieces.items };
 }
 
 impl Transcript {
@@ -34,20 +47,32 @@ impl Transcript {
     {
         Transcript {
             pieces: Vec::new(alloc),
+            text: 0,
         }
     }
 
     /// Appends one piece, which is dropped at a refusal.
-    pub fn add(&mut self, piece: Piece) -> Result<(), OutOfMemory>
+    pub fn add(&mut self, piece: Piece) -> Result<(), TranscriptFault>
         ensures ok { OnOk result (self.new ≡ self.old ++ piece ∷ []) }
         ensures err { OnErr result (self.new ≡ self.old) }
+        ensures too_long { IsErrOf result TranscriptFault.TooLong
+            ↔ ¬ IsBounded (self.old ++ piece ∷ []) }
     {
-        self.pieces.push(piece)?;
+        let more = text_of(&piece);
+        if self.pieces.len() == PIECES_MOST || more > TEXT_MOST - self.text {
+            return Err(TranscriptFault::TooLong);
+        }
+        if self.pieces.push(piece).is_err() {
+            return Err(TranscriptFault::OutOfMemory);
+        }
+        self.text += more;
         Ok(())
     }
 
+    /// The pieces. Each transcript is within its bounds.
     pub fn items(&self) -> &[Piece]
-        ensures { result.now ≡ self.now }
+        ensures pieces { result.now ≡ self.now }
+        ensures bounded { IsBounded result.now }
     {
         self.pieces.as_slice()
     }
@@ -58,6 +83,7 @@ impl Transcript {
     {
         Ok(Transcript {
             pieces: copy_pieces(alloc, self.pieces.as_slice())?,
+            text: self.text,
         })
     }
 
@@ -69,8 +95,9 @@ impl Transcript {
     }
 
     /// The transcript of a plain text: the name of its file, its size, and the text.
-    pub fn plain(alloc: Global, path: &PathText, text: &str) -> Result<Transcript, OutOfMemory>
-        ensures { IfOk result (λ t. t ≡ plain path.now text.now) }
+    pub fn plain(alloc: Global, path: &PathText, text: &str) -> Result<Transcript, TranscriptFault>
+        ensures ok { IfOk result (λ t. t ≡ plain path.now text.now) }
+        ensures too_long { IsErrOf result TranscriptFault.TooLong → 1048576 < length text.now }
     {
         let mut transcript = Transcript::new(alloc);
         let name = Text::of(alloc, path.last_part())?;
@@ -90,11 +117,12 @@ impl Transcript {
     }
 }
 
-impl From<Vec<Piece>> for Transcript {
-    ghost from_gives = { λ v t. t ≡ v.items };
-
-    fn from(pieces: Vec<Piece>) -> Transcript {
-        Transcript { pieces }
+fn text_of(piece: &Piece) -> usize
+    ensures { result ≡ piece_length piece.now }
+{
+    match piece {
+        Piece::Words { text, .. } => text.as_str().len(),
+        Piece::Held { .. } => 0,
     }
 }
 

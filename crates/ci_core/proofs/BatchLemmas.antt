@@ -20,7 +20,7 @@ use Rattle.ci_journal.specs.Terms.{Served, Terms, found_served}
 use Rattle.ci_core.specs.Batches.{CanFinish, IsNextBatch}
 use Rattle.ci_core.specs.Changes.{Adds, Stays}
 use Rattle.ci_core.specs.Kept.{IsHolding, Shelf}
-use Rattle.ci_core.specs.Serving.{AreServed, IsIndexable, entry_from, is_served, serve_entries}
+use Rattle.ci_core.specs.Serving.{AreServed, IsDone, entry_from, is_served, serve_entries}
 use Rattle.ci_core.specs.Sheet.{Sheet}
 use Rattle.ci_documents.specs.Documents.{KeepsEntries, Standings, StandFor}
 use Rattle.ci_core.proofs.KeptLemmas.{Follows, IsHolding-adds}
@@ -71,7 +71,6 @@ module _ (terms : Terms) (old : Sheet) (shelf : Shelf) (kept : IsHolding terms o
       let follows : Follows terms old (event by (Begun batch)) shelf after_begin = record {
         may = record { next = next.number; some = next.some; most = max; first = next.docs };
         alone = refl;
-        indexable = tt;
         filed = kept.served;
         requests = omega arith;
         replies = omega arith;
@@ -104,14 +103,14 @@ module _ (terms : Terms) (old : Sheet) (shelf : Shelf) (kept : IsHolding terms o
   filed_is by batch outcomes can = ap (λ ds. fates_at_end ds (Through outcomes)) (docs_out-is terms old.events kept.run batch can.is_out)
 
   -- what was served behind a batch that is finished
-  stands_behind : (by : ℕ) (batch : Batch) (outcomes : List Outcome) → CanFinish old.events by batch outcomes → All IsIndexable outcomes →
+  stands_behind : (by : ℕ) (batch : Batch) (outcomes : List Outcome) → CanFinish old.events by batch outcomes → All IsDone outcomes →
       served_by terms (fates old.events ++ fates_at_end (docs_out (out old.events) batch.number) (Through outcomes)) ≡ serve_entries (served_by terms (fates old.events)) batch.docs (map (entry_from terms.noise) outcomes)
   stands_behind by batch outcomes can done =
       ap (λ fs. served_by terms (fates old.events ++ fs)) (filed_is by batch outcomes can)
       ∙ fold-append (serve terms) (found_served terms.beginning) (fates old.events) (fates_at_end batch.docs (Through outcomes))
       ∙ served-outcomes terms (served_by terms (fates old.events)) batch.docs outcomes done
 
-  numbers_behind : (by : ℕ) (batch : Batch) (outcomes : List Outcome) → CanFinish old.events by batch outcomes → All IsIndexable outcomes →
+  numbers_behind : (by : ℕ) (batch : Batch) (outcomes : List Outcome) → CanFinish old.events by batch outcomes → All IsDone outcomes →
       shelf.changes.served ++ batch.docs ≡ terms.beginning.numbers ++ numbers_of (fates old.events ++ fates_at_end (docs_out (out old.events) batch.number) (Through outcomes))
   numbers_behind by batch outcomes can done =
       let first = terms.beginning.numbers in
@@ -123,19 +122,18 @@ module _ (terms : Terms) (old : Sheet) (shelf : Shelf) (kept : IsHolding terms o
       ∙ sym (filter_map-append number_of (fates old.events) (fates_at_end (docs_out (out old.events) batch.number) (Through outcomes))))
 
   -- a batch was finished
-  pub finished-kept : (ready new : Sheet) (by : ℕ) (batch : Batch) (outcomes : List Outcome) (served after : HandedIn) (mid documents : Standings) → CanFinish old.events by batch outcomes → All IsIndexable outcomes → Stays old ready → KeepsEntries shelf.documents mid →
+  pub finished-kept : (ready new : Sheet) (by : ℕ) (batch : Batch) (outcomes : List Outcome) (served after : HandedIn) (mid documents : Standings) → CanFinish old.events by batch outcomes → All IsDone outcomes → Stays old ready → KeepsEntries shelf.documents mid →
       served ≡ record shelf.changes { served = shelf.changes.served ++ batch.docs } → after ≡ without_batch served batch.number →
       ((s : Served) → s.numbers ≡ shelf.changes.served → StandFor s.documents mid → StandFor (serve_entries s batch.docs (map (entry_from terms.noise) outcomes)).documents documents) →
       Adds ready new (event by (BatchDone batch.number outcomes)) → Kept new (record shelf { documents = documents; changes = after })
-  finished-kept ready new by batch outcomes served after mid documents can indexable stays keeps handed given serves adds =
+  finished-kept ready new by batch outcomes served after mid documents can done stays keeps handed given serves adds =
       let after_finishing : Shelf = record shelf { documents = documents; changes = after } in
       let may : MayFinish old.events by batch.number outcomes = (batch, record { is_out = can.is_out; numbered = refl; own = can.own }, can.each) in
       let follows : Follows terms old (event by (BatchDone batch.number outcomes)) shelf after_finishing = record {
         may = may;
         alone = ap (λ es. es ++ event by (BatchDone batch.number outcomes) ∷ []) (no_shadow terms old.events by kept.starts);
-        indexable = indexable;
         filed = subst (λ fs. AreServed (fates old.events ++ fs)) (sym (filed_is by batch outcomes can))
-            (All-append (λ (f : Filing). is_served f.fate ≡ true) (fates old.events) (fates_at_end batch.docs (Through outcomes)) kept.served (AreServed-outcomes batch.docs outcomes indexable));
+            (All-append (λ (f : Filing). is_served f.fate ≡ true) (fates old.events) (fates_at_end batch.docs (Through outcomes)) kept.served (AreServed-outcomes batch.docs outcomes done));
         requests = omega arith;
         replies = omega arith;
         noted = omega arith;
@@ -143,9 +141,9 @@ module _ (terms : Terms) (old : Sheet) (shelf : Shelf) (kept : IsHolding terms o
         waits = IsQueue-silent terms old.events (event by (BatchDone batch.number outcomes)) shelf.waiting refl refl kept.waits;
         marks = refl;
         notices = ap (λ (h : HandedIn). h.notices) given ∙ ap (λ (h : HandedIn). h.notices) handed ∙ sym (append-nil _);
-        served = ap (λ (h : HandedIn). h.served) given ∙ ap (λ (h : HandedIn). h.served) handed ∙ numbers_behind by batch outcomes can indexable;
+        served = ap (λ (h : HandedIn). h.served) given ∙ ap (λ (h : HandedIn). h.served) handed ∙ numbers_behind by batch outcomes can done;
         out = ap (λ (h : HandedIn). h.out) given ∙ ap (λ (h : HandedIn). (without_batch h batch.number).out) handed ∙ ap (λ bs. (without_batch (record shelf.changes { out = bs }) batch.number).out) kept.tracks.out;
-        stands = subst (λ (s : Served). StandFor s.documents documents) (sym (stands_behind by batch outcomes can indexable))
+        stands = subst (λ (s : Served). StandFor s.documents documents) (sym (stands_behind by batch outcomes can done))
             (serves (served_by terms (fates old.events)) (served_by-numbers terms (fates old.events) ∙ sym kept.tracks.served) (λ path. kept.stands path ∙ sym (keeps.entries path)));
       } in
       IsHolding-adds terms old ready new _ shelf after_finishing kept stays adds follows

@@ -20,7 +20,7 @@ use Rattle.ci_core.specs.declared.core_fault.CoreFault.TheVariants.{TooManyDocum
 use Rattle.ci_core.specs.Changes.{Adds, LacksRoom, Stays}
 use Rattle.ci_documents.specs.Documents.{KeepsEntries, Standings, StandFor}
 use Rattle.ci_core.specs.Kept.{IsHolding, Shelf, StartsEmpty}
-use Rattle.ci_core.specs.Serving.{AreServed, HasIndexable}
+use Rattle.ci_core.specs.Serving.{AreServed}
 use Rattle.ci_core.specs.Sheet.{Sheet}
 use Rattle.ci_core.specs.Waiting.{IsQueue, Marks}
 use Rattle.ci_core.specs.declared.waiting.Waiting.{Waiting}
@@ -35,7 +35,6 @@ IsHolding-empty terms sheet shelf starts none small no_document no_query no_mark
   run = rw none Empty;
   within = rw none (omega arith);
   small = small;
-  indexable = rw none (λ k d within. absurd (omega (arith, within)));
   served = rw none (λ k d within. absurd (omega (arith, within)));
   counts = rw none (record { requests = requests; replies = replies; noted = noted; begun = begun });
   waits = rw (none, no_query) (IsQueue-empty terms);
@@ -52,7 +51,6 @@ IsHolding-empty terms sheet shelf starts none small no_document no_query no_mark
 pub record Follows (terms : Terms) (old : Sheet) (event : Event) (before after : Shelf) : Type 0 where
   pub may : May terms old.events event.by event.what
   pub alone : step_of terms old.events event.by event.what ≡ event ∷ []
-  pub indexable : HasIndexable event.what
   pub requests : after.requests ≡ before.requests + length (option_to_list (tells event.what).request)
   pub replies : after.replies ≡ before.replies + length (option_to_list (tells event.what).reply)
   pub noted : after.noted ≡ before.noted + length (option_to_list (tells event.what).notice)
@@ -73,7 +71,6 @@ module _ (terms : Terms) (old : Sheet) (event : Event) (before after : Shelf) (k
     run = rw events (Run-one terms old.events event kept.run step.may step.alone);
     within = within;
     small = rw limit kept.small;
-    indexable = rw events (All-push (λ (e : Event). HasIndexable e.what) old.events event kept.indexable step.indexable);
     served = rw events (subst (λ (f : Filings). AreServed f.filed) (sym (filings-push old.events event)) step.filed);
     counts = rw events (record {
       requests = omega (arith, kept.counts.requests, step.requests, ap length (requests_in-push old.events event), length-append (requests_in old.events) (option_to_list (tells event.what).request));
@@ -103,7 +100,6 @@ IsHolding-moved terms old new shelf kept events limit = record {
   run = subst (Run terms) (sym events) kept.run;
   within = rw (events, limit) kept.within;
   small = rw limit kept.small;
-  indexable = rw events kept.indexable;
   served = rw events kept.served;
   counts = rw events kept.counts;
   waits = subst (λ es. IsQueue terms es shelf.waiting) (sym events) kept.waits;
@@ -125,7 +121,6 @@ IsHolding-placed terms old new shelf documents kept stays keeps =
       run = same.run;
       within = same.within;
       small = same.small;
-      indexable = same.indexable;
       served = same.served;
       counts = record { requests = same.counts.requests; replies = same.counts.replies; noted = same.counts.noted; begun = same.counts.begun };
       waits = same.waits;
@@ -150,7 +145,6 @@ IsHolding-shown terms sheet shelf waiting marks kept waits marked = record {
   run = kept.run;
   within = kept.within;
   small = kept.small;
-  indexable = kept.indexable;
   served = kept.served;
   counts = record { requests = kept.counts.requests; replies = kept.counts.replies; noted = kept.counts.noted; begun = kept.counts.begun };
   waits = subst (IsQueue terms sheet.events) (sym waits) kept.waits;
@@ -166,7 +160,6 @@ IsHolding-tracked terms sheet shelf changes kept same = record {
   run = kept.run;
   within = kept.within;
   small = kept.small;
-  indexable = kept.indexable;
   served = kept.served;
   counts = record { requests = kept.counts.requests; replies = kept.counts.replies; noted = kept.counts.noted; begun = kept.counts.begun };
   waits = kept.waits;

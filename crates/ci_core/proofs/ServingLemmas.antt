@@ -18,7 +18,7 @@ use Rattle.ci_journal.specs.Tells.{Filing}
 use Rattle.ci_journal.specs.Tells.Ending.{Through}
 use Rattle.ci_journal.specs.Terms.{Served, Terms, path_cmp}
 use Rattle.ci_documents.specs.Documents.{Standings, StandFor, KeepsEntries, Serves, entry_at, has_place}
-use Rattle.ci_core.specs.Serving.{AreServed, IsIndexable, entry_from, is_served, serve_entry, serve_entries}
+use Rattle.ci_core.specs.Serving.{AreServed, IsDone, entry_from, is_served, serve_entry, serve_entries}
 use Rattle.ci_core.proofs.ServedLemmas.{flipped}
 
 -- one document served
@@ -55,39 +55,39 @@ IsOnTheWay-next served docs entries changes after documents settled doc entry be
 
 -- ---- against the journal
 
-serve_entry-is : (terms : Terms) (served : Served) (doc : List ℕ × Seq) (outcome : Outcome) → IsIndexable outcome → serve terms served (filing doc (fate_of outcome)) ≡ serve_entry served doc (entry_from terms.noise outcome)
+serve_entry-is : (terms : Terms) (served : Served) (doc : List ℕ × Seq) (outcome : Outcome) → IsDone outcome → serve terms served (filing doc (fate_of outcome)) ≡ serve_entry served doc (entry_from terms.noise outcome)
 serve_entry-is terms served doc (Done transcript) done = refl
 serve_entry-is terms served doc (Failed status) done = absurd done
 serve_entry-is terms served doc (Refused status) done = absurd done
 
 -- the outcomes of a batch serve its documents with their entries
-pub served-outcomes : (terms : Terms) (served : Served) (docs : List (List ℕ × Seq)) (outcomes : List Outcome) → All IsIndexable outcomes → fold (serve terms) served (fates_at_end docs (Through outcomes)) ≡ serve_entries served docs (map (entry_from terms.noise) outcomes)
+pub served-outcomes : (terms : Terms) (served : Served) (docs : List (List ℕ × Seq)) (outcomes : List Outcome) → All IsDone outcomes → fold (serve terms) served (fates_at_end docs (Through outcomes)) ≡ serve_entries served docs (map (entry_from terms.noise) outcomes)
 served-outcomes terms served [] [] done = refl
 served-outcomes terms served [] (o ∷ outcomes) done = refl
 served-outcomes terms served (d ∷ docs) [] done = refl
 served-outcomes terms served (d ∷ docs) (o ∷ outcomes) done =
-    ap (λ s. fold (serve terms) s (fates_at_end docs (Through outcomes))) (serve_entry-is terms served d o (All-head IsIndexable o outcomes done))
-    ∙ served-outcomes terms (serve_entry served d (entry_from terms.noise o)) docs outcomes (All-tail IsIndexable o outcomes done)
+    ap (λ s. fold (serve terms) s (fates_at_end docs (Through outcomes))) (serve_entry-is terms served d o (All-head IsDone o outcomes done))
+    ∙ served-outcomes terms (serve_entry served d (entry_from terms.noise o)) docs outcomes (All-tail IsDone o outcomes done)
 
 -- their numbers are those of the documents
-pub numbers-outcomes : (docs : List (List ℕ × Seq)) (outcomes : List Outcome) → All IsIndexable outcomes → length outcomes ≡ length docs → numbers_of (fates_at_end docs (Through outcomes)) ≡ docs
+pub numbers-outcomes : (docs : List (List ℕ × Seq)) (outcomes : List Outcome) → All IsDone outcomes → length outcomes ≡ length docs → numbers_of (fates_at_end docs (Through outcomes)) ≡ docs
 numbers-outcomes [] [] done each = refl
 numbers-outcomes [] (o ∷ outcomes) done each = absurd (omega (arith, each))
 numbers-outcomes (d ∷ docs) [] done each = absurd (omega (arith, each))
-numbers-outcomes (d ∷ docs) (Done transcript ∷ outcomes) done each = ap (λ ds. d ∷ ds) (numbers-outcomes docs outcomes (All-tail IsIndexable (Done transcript) outcomes done) (omega (arith, each)))
-numbers-outcomes (d ∷ docs) (Failed status ∷ outcomes) done each = absurd (All-head IsIndexable (Failed status) outcomes done)
-numbers-outcomes (d ∷ docs) (Refused status ∷ outcomes) done each = absurd (All-head IsIndexable (Refused status) outcomes done)
+numbers-outcomes (d ∷ docs) (Done transcript ∷ outcomes) done each = ap (λ ds. d ∷ ds) (numbers-outcomes docs outcomes (All-tail IsDone (Done transcript) outcomes done) (omega (arith, each)))
+numbers-outcomes (d ∷ docs) (Failed status ∷ outcomes) done each = absurd (All-head IsDone (Failed status) outcomes done)
+numbers-outcomes (d ∷ docs) (Refused status ∷ outcomes) done each = absurd (All-head IsDone (Refused status) outcomes done)
 
 -- and each was served
-pub AreServed-outcomes : (docs : List (List ℕ × Seq)) (outcomes : List Outcome) → All IsIndexable outcomes → AreServed (fates_at_end docs (Through outcomes))
+pub AreServed-outcomes : (docs : List (List ℕ × Seq)) (outcomes : List Outcome) → All IsDone outcomes → AreServed (fates_at_end docs (Through outcomes))
 AreServed-outcomes [] [] done = λ k d within. absurd (omega (arith, within))
 AreServed-outcomes [] (o ∷ outcomes) done = λ k d within. absurd (omega (arith, within))
 AreServed-outcomes (d ∷ docs) [] done = λ k d within. absurd (omega (arith, within))
 AreServed-outcomes (d ∷ docs) (Done transcript ∷ outcomes) done =
     All-cons (λ (f : Filing). is_served f.fate ≡ true) (filing d (fate_of (Done transcript))) (fates_at_end docs (Through outcomes)) refl
-    (AreServed-outcomes docs outcomes (All-tail IsIndexable (Done transcript) outcomes done))
-AreServed-outcomes (d ∷ docs) (Failed status ∷ outcomes) done = absurd (All-head IsIndexable (Failed status) outcomes done)
-AreServed-outcomes (d ∷ docs) (Refused status ∷ outcomes) done = absurd (All-head IsIndexable (Refused status) outcomes done)
+    (AreServed-outcomes docs outcomes (All-tail IsDone (Done transcript) outcomes done))
+AreServed-outcomes (d ∷ docs) (Failed status ∷ outcomes) done = absurd (All-head IsDone (Failed status) outcomes done)
+AreServed-outcomes (d ∷ docs) (Refused status ∷ outcomes) done = absurd (All-head IsDone (Refused status) outcomes done)
 
 -- ---- steps of loops over documents
 

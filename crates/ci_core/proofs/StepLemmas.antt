@@ -28,7 +28,7 @@ use Rattle.ci_core.specs.Asking.{TellsTree, grown}
 use Rattle.ci_core.specs.Changes.{Adds, Enters, Stays, noted}
 use Rattle.ci_documents.specs.Documents.{Standings, StandFor, KeepsEntries, Serves, Settles}
 use Rattle.ci_core.specs.Kept.{IsHolding, Shelf, StartsEmpty}
-use Rattle.ci_core.specs.Serving.{AreServed, IsIndexable, is_served}
+use Rattle.ci_core.specs.Serving.{AreServed, is_served}
 use Rattle.ci_core.specs.Sheet.{Sheet}
 use Rattle.ci_core.specs.Waiting.{IsQueue, Marks, marked_at}
 use Rattle.ci_core.proofs.KeptLemmas.{Follows, IsHolding-adds, IsHolding-follows}
@@ -57,7 +57,6 @@ module _ (terms : Terms) (old : Sheet) (shelf : Shelf) (kept : IsHolding terms o
       let follows : Follows terms old (event by (Asked (shelf.requests + 1) request)) shelf after_ask = record {
         may = record { foreground = foreground; next = next };
         alone = refl;
-        indexable = tt;
         filed = kept.served;
         requests = omega arith;
         replies = omega arith;
@@ -81,7 +80,6 @@ module _ (terms : Terms) (old : Sheet) (shelf : Shelf) (kept : IsHolding terms o
       let follows : Follows terms old (noted by path (shelf.noted + 1) what) shelf after_note = record {
         may = record { foreground = foreground; scope = refl; next = omega (arith, kept.counts.noted, ap (λ (b : Beginning). b.next) kept.starts.beginning) };
         alone = refl;
-        indexable = tt;
         filed = kept.served;
         requests = omega arith;
         replies = omega arith;
@@ -110,17 +108,16 @@ module _ (terms : Terms) (old : Sheet) (shelf : Shelf) (kept : IsHolding terms o
 
   -- a transcript was put
   pub put-kept : (ready new : Sheet) (by : ℕ) (path : List ℕ) (seq served : Seq) (transcript : List Piece) (entry : EntryLists) (after : HandedIn) (mid documents : Standings) →
-      MayPut terms old.events by (record { path = path; seq = seq; what = Changed }) → IsIndexable (Done transcript) → Stays old ready → entry ≡ entry_of terms.noise transcript → served ≡ record { 0 = served_number shelf.changes.served path } →
+      MayPut terms old.events by (record { path = path; seq = seq; what = Changed }) → Stays old ready → entry ≡ entry_of terms.noise transcript → served ≡ record { 0 = served_number shelf.changes.served path } →
       after ≡ with_served shelf.changes path seq → KeepsEntries shelf.documents mid → Serves mid documents path (nat_lt served.0 seq.0) entry →
       Adds ready new (event by (Put path seq transcript)) → Kept new (record shelf { documents = documents; changes = after })
-  put-kept ready new by path seq served transcript entry after mid documents may indexable stays filled served_is handed keeps serves_entry adds =
+  put-kept ready new by path seq served transcript entry after mid documents may stays filled served_is handed keeps serves_entry adds =
       let filing : Filing = record { path = path; seq = seq; fate = Filtered transcript } in
       let after_put : Shelf = record shelf { documents = documents; changes = after } in
       let number : served.0 ≡ served_number (served_by terms (fates old.events)).numbers path = ap (λ (s : Seq). s.0) served_is ∙ served_under path in
       let follows : Follows terms old (event by (Put path seq transcript)) shelf after_put = record {
         may = may;
         alone = ap (λ es. es ++ event by (Put path seq transcript) ∷ []) (no_shadow terms old.events by kept.starts);
-        indexable = indexable;
         filed = AreServed-push (fates old.events) filing kept.served refl;
         requests = omega arith;
         replies = omega arith;
@@ -148,7 +145,6 @@ module _ (terms : Terms) (old : Sheet) (shelf : Shelf) (kept : IsHolding terms o
       let follows : Follows terms old (event by (Erased path seq)) shelf after_erasing = record {
         may = may;
         alone = ap (λ es. es ++ event by (Erased path seq) ∷ []) (no_shadow terms old.events by kept.starts);
-        indexable = tt;
         filed = AreServed-push (fates old.events) filing kept.served refl;
         requests = omega arith;
         replies = omega arith;
@@ -173,7 +169,6 @@ module _ (terms : Terms) (old : Sheet) (shelf : Shelf) (kept : IsHolding terms o
       let follows : Follows terms old (event by (Opened first.id)) shelf after_opening = record {
         may = (first.tree, IsQueue-first terms old.events first after queue);
         alone = refl;
-        indexable = tt;
         filed = kept.served;
         requests = omega arith;
         replies = omega arith;
@@ -196,7 +191,6 @@ module _ (terms : Terms) (old : Sheet) (shelf : Shelf) (kept : IsHolding terms o
       let follows : Follows terms old (event by (Said id reply)) shelf after_saying = record {
         may = may;
         alone = refl;
-        indexable = tt;
         filed = kept.served;
         requests = omega arith;
         replies = omega arith;
@@ -218,7 +212,6 @@ module _ (terms : Terms) (old : Sheet) (shelf : Shelf) (kept : IsHolding terms o
       let follows : Follows terms old (event by (Answered id at paths)) shelf after_answering = record {
         may = may;
         alone = refl;
-        indexable = tt;
         filed = kept.served;
         requests = omega arith;
         replies = omega arith;

@@ -11,7 +11,7 @@ use Rattle.ci_journal.specs.Terms.{Terms, empty_beginning}
 use Rattle.ci_core.specs.declared.settings.TheConstants.{JOURNAL_MOST}
 use Rattle.ci_core.specs.declared.waiting.Waiting.{Waiting}
 use Rattle.ci_documents.specs.Documents.{Standings, StandFor}
-use Rattle.ci_core.specs.Serving.{AllIndexable, AreServed}
+use Rattle.ci_core.specs.Serving.{AreServed}
 use Rattle.ci_core.specs.Sheet.{Sheet}
 use Rattle.ci_core.specs.Waiting.{IsQueue, Marks, MarksReplies}
 
@@ -53,7 +53,6 @@ pub record IsHolding (terms : Terms) (sheet : Sheet) (shelf : Shelf) : Type 0 wh
   pub run : Run terms sheet.events
   pub within : journal_bytes sheet.events ≤ sheet.limit
   pub small : sheet.limit ≤ JOURNAL_MOST
-  pub indexable : AllIndexable sheet.events
   pub served : AreServed (fates sheet.events)
   pub counts : Counts sheet.events shelf
   pub waits : IsQueue terms sheet.events shelf.waiting

@@ -1,33 +1,20 @@
 -- Documents of a batch that are served, one after the other.
-use Rattle.std.specs.Prelude.{⊤, All, ◌≡◌, ◌≤◌, ◌++◌, ℕ, Bool, true, false, nat_lt, List, [], ◌∷◌, length, if◌then◌else◌}
+use Rattle.std.specs.Prelude.{⊤, All, ◌≡◌, ◌++◌, ℕ, Bool, true, false, nat_lt, List, [], ◌∷◌, if◌then◌else◌}
 use Rattle.std.specs.FinMap as map_of_keys
 use Rattle.ci_base.specs.declared.numbers.Seq.{Seq}
 use Rattle.ci_change.specs.Pending.{served_number}
-use Rattle.ci_entry.specs.Entry.{entry_of, text_bytes}
+use Rattle.ci_entry.specs.Entry.{entry_of}
 use Rattle.ci_chunk.specs.declared.outcome.Outcome.{Outcome}
 use Rattle.ci_chunk.specs.declared.outcome.Outcome.TheVariants.{Done}
 use Rattle.ci_keys.specs.Entry.{EntryLists}
-use Rattle.ci_journal.specs.declared.event.Event.{Event}
-use Rattle.ci_journal.specs.declared.event.Happened.{Happened}
-use Rattle.ci_journal.specs.declared.event.Happened.TheVariants.{Put, BatchDone}
 use Rattle.ci_journal.specs.Tells.{Fate, Filing}
 use Rattle.ci_journal.specs.Tells.Fate.{Filtered, Gone}
 use Rattle.ci_journal.specs.Terms.{Served}
 
--- the document was read to its end, and its transcript has few enough pieces and bytes to be indexed; what failed or was
--- refused isn't taken yet
-abbrev pub IsIndexable : Outcome → Type 0
-IsIndexable (Done transcript) = (length transcript ≤ 65536) × (text_bytes transcript ≤ 1048576)
-IsIndexable _ = ⊥
-
--- each transcript of an event can be indexed
-abbrev pub HasIndexable : Happened → Type 0
-HasIndexable (Put path seq transcript) = IsIndexable (Done transcript)
-HasIndexable (BatchDone number outcomes) = All IsIndexable outcomes
-HasIndexable _ = ⊤
-
-abbrev pub AllIndexable : List Event → Type 0
-AllIndexable events = All (λ e. HasIndexable e.what) events
+-- the document was read to its end; what failed or was refused isn't taken yet
+abbrev pub IsDone : Outcome → Type 0
+IsDone (Done transcript) = ⊤
+IsDone _ = ⊥
 
 -- a document was filtered or taken away: no attempt was spent on it
 abbrev pub is_served : Fate → Bool

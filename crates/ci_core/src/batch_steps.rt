@@ -4,7 +4,7 @@ ghost use Rattle.ci_core.specs.Batches.{Begins, CanFinish, RefusesBeginning};
 ghost use Rattle.ci_journal.specs.Tells.{event};
 ghost use Rattle.ci_core.specs.Fixed.{KeepsFixed};
 ghost use Rattle.ci_core.specs.Refusals.{Refuses};
-ghost use Rattle.ci_core.specs.Serving.{IsIndexable};
+ghost use Rattle.ci_core.specs.Serving.{IsDone};
 ghost use Rattle.ci_core.specs.Steps.{IsUnrefused, Makes};
 
 use crate::refusal::keep;
@@ -39,7 +39,7 @@ impl<K: Sink + Drop> Catalog<K> {
         outcomes: Outcomes,
     ) -> Result<(), CoreFault>
         requires may { CanFinish self.old.sheet.events by batch.now outcomes }
-        requires indexable { All IsIndexable outcomes }
+        requires done { All IsDone outcomes }
         ensures ok { OnOk result (Makes self.old self.new
             (event by (Happened.BatchDone batch.now.number outcomes))) }
         ensures unrefused { OnOk result (IsUnrefused self.old self.new) }

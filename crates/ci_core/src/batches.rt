@@ -4,7 +4,7 @@ ghost use Rattle.ci_core.specs.Batches.{Begins, CanFinish, HaltsBeginning};
 ghost use Rattle.ci_journal.specs.Tells.{event};
 ghost use Rattle.ci_core.specs.Changes.{IsReady, LacksRoom};
 ghost use Rattle.ci_core.specs.Refusals.{Halts};
-ghost use Rattle.ci_core.specs.Serving.{IsIndexable};
+ghost use Rattle.ci_core.specs.Serving.{IsDone};
 ghost use Rattle.ci_core.specs.Steps.{Makes};
 
 use crate::serving::{entries_of, make_places, serve_all};
@@ -46,7 +46,7 @@ impl<K: Sink + Drop> Holdings<K> {
     /// The batch is out no more, and each of its documents has its outcome.
     pub fn finish(&mut self, by: u32, batch: &Batch, outcomes: Outcomes) -> Result<(), CoreFault>
         requires may { CanFinish self.old.sheet.events by batch.now outcomes }
-        requires indexable { All IsIndexable outcomes }
+        requires done { All IsDone outcomes }
         ensures ok { OnOk result (Makes self.old self.new
             (event by (Happened.BatchDone batch.now.number outcomes))) }
         ensures refused { IfErr result (Halts self.old self.new

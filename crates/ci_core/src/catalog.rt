@@ -11,7 +11,6 @@ ghost use Rattle.ci_core.specs.Catalog.{IsCaused, NumbersAfter};
 ghost use Rattle.ci_core.specs.Core.{terms_of};
 ghost use Rattle.ci_core.specs.Fixed.{HasFixed};
 ghost use Rattle.ci_core.specs.Kept.{StartsEmpty};
-ghost use Rattle.ci_core.specs.Serving.{AllIndexable};
 
 use crate::{Closed, CoreFault, Holdings, NoCatalog, Refusal, Settings};
 use ci_base::OutOfMemory;
@@ -113,14 +112,12 @@ impl<K: Sink + Drop> Catalog<K> {
         self.refusal.as_ref()
     }
 
-    /// The journal of a session that found nothing, which is a run of steps whose transcripts can be
-    /// indexed. It is within its bound, and the numbered paths are those that it notes, unless memory
-    /// was wanted.
+    /// The journal of a session that found nothing, which is a run of steps. It is within its bound,
+    /// and the numbered paths are those that it notes, unless memory was wanted.
     pub fn journal(&self) -> &Journal
         ensures events { result.now.list ≡ self.now.sheet.events }
         ensures run { Run self.now.terms result.now.list }
         ensures starts { StartsEmpty self.now.terms }
-        ensures indexable { AllIndexable result.now.list }
         ensures within { journal_bytes result.now.list ≤ self.now.sheet.limit }
         ensures numbered { NumbersAfter self.now self.now.refusal }
     {

@@ -3,7 +3,6 @@ ghost use Rattle.ci_journal.specs.Bytes.{journal_bytes};
 ghost use Rattle.ci_journal.specs.Step.{Run};
 ghost use Rattle.ci_core.specs.Core.{terms_of};
 ghost use Rattle.ci_core.specs.Kept.{StartsEmpty};
-ghost use Rattle.ci_core.specs.Serving.{AllIndexable};
 
 use crate::{Book, Replied, Settings, Waiting};
 use ci_change::ChangeList;
@@ -99,7 +98,6 @@ impl<K: Sink + Drop> Holdings<K> {
         ensures events { result.now.list ≡ self.now.sheet.events }
         ensures run { Run self.now.terms result.now.list }
         ensures starts { StartsEmpty self.now.terms }
-        ensures indexable { AllIndexable result.now.list }
         ensures within { journal_bytes result.now.list ≤ self.now.sheet.limit }
     {
         self.book.journal()

@@ -1,5 +1,4 @@
 ghost use Rattle.std.specs.Prelude.{◌≡◌, ◌≤◌, ◌+◌, ◌&&◌, false, length, nat_le, not, IfOk, IfErr, OnOk, IsErrOf};
-ghost use Rattle.ci_entry.specs.Entry.{text_bytes};
 ghost use Rattle.ci_journal.specs.Folds.{is_numbered, next_notice};
 ghost use Rattle.ci_journal.specs.Step.{MayPut, MayErase};
 ghost use Rattle.ci_journal.specs.Tells.{event};
@@ -68,10 +67,8 @@ impl<K: Sink + Drop> Holdings<K> {
         seq: Seq,
         transcript: Transcript,
     ) -> Result<(), CoreFault>
-        requires may { MayPut self.old.terms self.old.sheet.events by
+        requires { MayPut self.old.terms self.old.sheet.events by
             (record { path = path.now; seq = seq; what = What.Changed }) }
-        requires pieces { length transcript ≤ 65536 }
-        requires bytes { text_bytes transcript ≤ 1048576 }
         ensures ok { OnOk result
             (Makes self.old self.new (event by (Happened.Put path.now seq transcript))) }
         ensures refused { IfErr result

@@ -3,7 +3,7 @@ ghost use Rattle.ci_change.specs.HandedIn.{is_known, with_served};
 ghost use Rattle.ci_change.specs.Pending.{served_number};
 ghost use Rattle.ci_documents.specs.Documents.{KeepsEntries, Serves, StandFor, has_place};
 ghost use Rattle.ci_journal.specs.Terms.{Served};
-ghost use Rattle.ci_core.specs.Serving.{IsIndexable, entry_from, serve_entries};
+ghost use Rattle.ci_core.specs.Serving.{IsDone, entry_from, serve_entries};
 
 use ci_base::{OutOfMemory, PathText, Seq};
 use ci_change::ChangeList;
@@ -20,7 +20,7 @@ pub fn entries_of(
     outcomes: &[Outcome],
     noise: &NoiseList,
 ) -> Result<VecDeque<SharedEntry>, OutOfMemory>
-    requires { All IsIndexable outcomes.now }
+    requires { All IsDone outcomes.now }
     ensures { IfOk result (λ entries. entries.items ≡ map (entry_from noise.now) outcomes.now) }
 {
     let mut entries = VecDeque::new(alloc);
@@ -31,7 +31,7 @@ pub fn entries_of(
 }
 
 fn filtered(alloc: Global, outcome: &Outcome, noise: &NoiseList) -> Result<SharedEntry, OutOfMemory>
-    requires { IsIndexable outcome.now }
+    requires { IsDone outcome.now }
     ensures { IfOk result (λ entry. entry ≡ entry_from noise.now outcome.now) }
 {
     match outcome {

@@ -1,5 +1,4 @@
 ghost use Rattle.std.specs.Prelude.{◌≡◌, ◌≤◌, ◌+◌, false, None, length, IfOk, IfErr, OnOk, IsErrOf};
-ghost use Rattle.ci_entry.specs.Entry.{text_bytes};
 ghost use Rattle.ci_journal.specs.Folds.{is_numbered, requests_in, next_notice, is_opened, is_replied};
 ghost use Rattle.ci_journal.specs.declared.event.Happened.{Happened};
 ghost use Rattle.ci_journal.specs.Step.{MayPut, MayAnswer, MaySay};
@@ -68,10 +67,8 @@ impl<K: Sink + Drop> Catalog<K> {
         seq: Seq,
         transcript: Transcript,
     ) -> Result<(), CoreFault>
-        requires may { MayPut self.old.terms self.old.sheet.events by
+        requires { MayPut self.old.terms self.old.sheet.events by
             (record { path = path.now; seq = seq; what = What.Changed }) }
-        requires pieces { length transcript ≤ 65536 }
-        requires bytes { text_bytes transcript ≤ 1048576 }
         ensures ok { OnOk result
             (Makes self.old self.new (event by (Happened.Put path.now seq transcript))) }
         ensures unrefused { OnOk result (IsUnrefused self.old self.new) }

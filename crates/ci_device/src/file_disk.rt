@@ -1,4 +1,4 @@
-ghost use Rattle.std.specs.Prelude.{◌≡◌, [], false};
+ghost use Rattle.std.specs.Prelude.{◌≡◌, [], None, false};
 ghost use Rattle.std.proofs.Common.{refl};
 ghost use Rattle.ci_io.specs.Causes.{HasCause};
 
@@ -19,7 +19,11 @@ pub struct FileDisk<R: Files<File = File> + Drop> {
 
 impl<R: Files<File = File> + Drop> FileDisk<R> {
     /// The file at this path.
-    pub fn new(rt: R, path: Text) -> FileDisk<R> {
+    pub fn new(rt: R, path: Text) -> FileDisk<R>
+        ensures path { result.path ≡ path }
+        ensures closed { result.file ≡ None }
+        ensures faults { result.faults ≡ 0 }
+    {
         FileDisk {
             rt,
             path,

@@ -8,8 +8,16 @@ mod images;
 #[cfg(test)]
 mod memory;
 #[cfg(test)]
+mod new_volumes;
+#[cfg(test)]
+mod odd_images;
+#[cfg(test)]
 mod openings;
 #[cfg(test)]
 mod script;
 #[cfg(test)]
 mod stops;
+#[cfg(test)]
+mod volume_files;
+#[cfg(test)]
+mod volumes;

@@ -1,21 +1,13 @@
 //! What images open to.
 
 use crate::images::{Image, bytes_of};
+use crate::volumes::refusal;
 use ci_base::{OutOfMemory, Text8};
 use ci_device::SureMemoryDisk;
-use ci_volume::{Volume, VolumeFault};
+use ci_volume::Volume;
 use std::alloc::{AllocError, Global};
 use std::process::Abort;
 use std::test::Fail;
-
-fn refusal(fault: VolumeFault) -> &'static str {
-    match fault {
-        VolumeFault::DiskFault => "disk",
-        VolumeFault::NotACatalogue => "none",
-        VolumeFault::VolumeFull { .. } => "full",
-        VolumeFault::OutOfMemory => "memory",
-    }
-}
 
 fn told(alloc: Global, generation: u64, pages: &[u32]) -> Result<String, AllocError> {
     let mut text = format!(in alloc; "{generation}:")?;
@@ -46,17 +38,17 @@ type Row = (
     &'static str,
 );
 
-const OPEN: u8 = 0x5A;
+pub(crate) const OPEN: u8 = 0x5A;
 
-const ONE: [u64; 4] = [1, 64, 3, 25];
+pub(crate) const ONE: [u64; 4] = [1, 64, 3, 25];
 
-const TWO: [u64; 4] = [2, 64, 4, 25];
+pub(crate) const TWO: [u64; 4] = [2, 64, 4, 25];
 
 const NOTHING: [u64; 4] = [0, 0, 0, 0];
 
 const PAGES: usize = 8 * 4096;
 
-const ROWS: [Row; 20] = [
+const ROWS: [Row; 21] = [
     ("no gate is open", [0, 1], [ONE, TWO], &[], PAGES, "none"),
     ("the first slot", [OPEN, 0], [ONE, TWO], &[], PAGES, "1: 3"),
     ("the second slot", [0, OPEN], [ONE, TWO], &[], PAGES, "2: 4"),
@@ -96,6 +88,14 @@ const ROWS: [Row; 20] = [
         "a generation too great",
         [OPEN, 0],
         [[1 << 62, 64, 3, 25], ONE],
+        &[],
+        PAGES,
+        "none",
+    ),
+    (
+        "the greatest generation beside one too great",
+        [OPEN, OPEN],
+        [[(1 << 62) - 1, 64, 3, 25], [1 << 62, 64, 4, 25]],
         &[],
         PAGES,
         "none",
@@ -210,25 +210,6 @@ fn rows_of_images(rt: HostRuntime) -> Result<(), Fail> {
         };
         let said = opened(alloc, bytes_of(alloc, &image)?)?;
         assert_eq!(rt; said.as_str(), *opens, "{name}");
-    }
-    Ok(())
-}
-
-#[test]
-fn images_of_few_bytes(rt: HostRuntime) -> Result<(), Fail> {
-    let alloc = rt.alloc();
-    for size in 0..10 {
-        let garbage = Text8::from(Vec::from_elem(alloc, b'A', size)?);
-        let said = opened(alloc, garbage)?;
-        assert_eq!(rt; said.as_str(), "none", "{size} bytes");
-        let image = Image {
-            gates: [OPEN, OPEN],
-            slots: [ONE, TWO],
-            links: &[],
-            size,
-        };
-        let said = opened(alloc, bytes_of(alloc, &image)?)?;
-        assert_eq!(rt; said.as_str(), "none", "{size} bytes of a volume");
     }
     Ok(())
 }

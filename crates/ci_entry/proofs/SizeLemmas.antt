@@ -5,7 +5,7 @@ use Rattle.std.proofs.lemmas.Bool.{cases_Bool}
 use Rattle.std.proofs.lemmas.List.Sums.{sum_by-cons}
 use Rattle.ci_chunk.specs.declared.piece.Piece.{Piece}
 use Rattle.ci_chunk.specs.declared.piece.Piece.TheVariants.{Words, Held}
-use Rattle.ci_entry.specs.Entry.{piece_bytes, text_bytes}
+use Rattle.ci_chunk.specs.Sizes.{piece_length, text_length}
 use Rattle.ci_entry.specs.Gather.{gather_onto, gathered}
 use Rattle.ci_entry.specs.Runs.{Passage, goes_on, joined, passage_of, property_runs, runs}
 
@@ -45,7 +45,7 @@ bytes-runs : (passages : List Passage) → passage_bytes (runs passages) ≡ pas
 bytes-runs [] = refl
 bytes-runs (passage ∷ later) = bytes-onto passage (runs later) ∙ ap (λ n. length passage.text + n) (bytes-runs later) ∙ sym (bytes-cons passage later)
 
-bytes-piece : (property : ℕ) (piece : Piece) (later : List Passage) → passage_bytes (cons_option (passage_of property piece) later) ≤ piece_bytes piece + passage_bytes later
+bytes-piece : (property : ℕ) (piece : Piece) (later : List Passage) → passage_bytes (cons_option (passage_of property piece) later) ≤ piece_length piece + passage_bytes later
 bytes-piece property (Words chunk text) later =
     elim (cases_Bool (chunk.property.0 == property)) [
       | inl same ↦ rw same (omega (arith, bytes-cons (record { before = chunk.break_type; text = text }) later))
@@ -53,10 +53,10 @@ bytes-piece property (Words chunk text) later =
     ]
 bytes-piece property (Held _ _) later = omega arith
 
-bytes-passages : (property : ℕ) (pieces : List Piece) → passage_bytes (filter_map (passage_of property) pieces) ≤ text_bytes pieces
+bytes-passages : (property : ℕ) (pieces : List Piece) → passage_bytes (filter_map (passage_of property) pieces) ≤ text_length pieces
 bytes-passages property [] = omega arith
 bytes-passages property (piece ∷ pieces) =
-    omega (arith, bytes-piece property piece (filter_map (passage_of property) pieces), bytes-passages property pieces, sum_by-cons piece_bytes piece pieces)
+    omega (arith, bytes-piece property piece (filter_map (passage_of property) pieces), bytes-passages property pieces, sum_by-cons piece_length piece pieces)
 
-pub short_runs : (property : ℕ) (pieces : List Piece) → passage_bytes (property_runs property pieces) ≤ text_bytes pieces
+pub short_runs : (property : ℕ) (pieces : List Piece) → passage_bytes (property_runs property pieces) ≤ text_length pieces
 short_runs property pieces = omega (arith, bytes-runs (filter_map (passage_of property) pieces), bytes-passages property pieces)

@@ -1,8 +1,6 @@
 -- What is known of a document from its transcript.
-use Rattle.std.specs.Prelude.{ℕ, List, length}
-use Rattle.std.specs.List.{sum_by}
+use Rattle.std.specs.Prelude.{ℕ, List}
 use Rattle.ci_chunk.specs.declared.piece.Piece.{Piece}
-use Rattle.ci_chunk.specs.declared.piece.Piece.TheVariants.{Words, Held}
 use Rattle.ci_keys.specs.Entry.{EntryLists}
 use Rattle.ci_entry.specs.Values.{values_of}
 use Rattle.ci_entry.specs.Words.{words_of}
@@ -10,12 +8,3 @@ use Rattle.ci_entry.specs.Words.{words_of}
 -- the entry of a transcript, under a list of noise words
 abbrev pub entry_of : List (List ℕ) → List Piece → EntryLists
 entry_of noise pieces = record { words = words_of noise pieces; values = values_of pieces }
-
--- the bytes of a piece's text
-abbrev pub piece_bytes : Piece → ℕ
-piece_bytes (Words _ text) = length text
-piece_bytes (Held _ _) = 0
-
--- the bytes of all texts of a transcript
-abbrev pub text_bytes : List Piece → ℕ
-text_bytes pieces = sum_by piece_bytes pieces

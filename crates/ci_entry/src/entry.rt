@@ -1,8 +1,8 @@
-ghost use Rattle.std.specs.Prelude.{◌≡◌, ◌↔◌, ◌≤◌, Contains, IfOk, length};
+ghost use Rattle.std.specs.Prelude.{◌≡◌, ◌↔◌, Contains, IfOk};
 ghost use Rattle.ci_base.specs.declared.numbers.Place.{Place};
 ghost use Rattle.ci_keys.specs.declared.key.Key.{Key};
 ghost use Rattle.ci_keys.specs.Entry.{StandsAt};
-ghost use Rattle.ci_entry.specs.Entry.{entry_of, text_bytes};
+ghost use Rattle.ci_entry.specs.Entry.{entry_of};
 ghost use Rattle.ci_entry.specs.Words.{stands};
 
 use crate::value::values_of;
@@ -19,8 +19,6 @@ pub fn entry_of(
     transcript: &Transcript,
     noise: &NoiseList,
 ) -> Result<Entry, OutOfMemory>
-    requires pieces { length transcript.now ≤ 65536 }
-    requires bytes { text_bytes transcript.now ≤ 1048576 }
     ensures entry { IfOk result (λ entry. entry ≡ entry_of noise.now transcript.now) }
 
     // Its words are just those that stand in the transcript, at their places.
@@ -48,8 +46,6 @@ impl Filtering {
         transcript: Transcript,
         noise: &NoiseList,
     ) -> Result<Filtering, OutOfMemory>
-        requires pieces { length transcript ≤ 65536 }
-        requires bytes { text_bytes transcript ≤ 1048576 }
         ensures transcript { IfOk result (λ filtering. filtering.transcript ≡ transcript) }
         ensures entry { IfOk result (λ filtering. filtering.entry ≡ entry_of noise.now transcript) }
     {

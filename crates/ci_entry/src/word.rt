@@ -3,7 +3,7 @@ ghost use Rattle.std.specs.List.{enumerate_from, filter_map, sum_by};
 ghost use Rattle.ci_keys.specs.Entry.{IsWords};
 ghost use Rattle.ci_keys.specs.Key.{IsIndexKey, MayHaveWords};
 ghost use Rattle.ci_words.specs.Words.{IsWord, words};
-ghost use Rattle.ci_entry.specs.Entry.{text_bytes};
+ghost use Rattle.ci_chunk.specs.Sizes.{IsBounded};
 ghost use Rattle.ci_entry.specs.Words.{gap, kept_word, placed_words, stands, words_of};
 
 use crate::group::group;
@@ -23,8 +23,7 @@ pub fn words_of(
     pieces: &[Piece],
     noise: &NoiseList,
 ) -> Result<Vec<(Key, Places)>, OutOfMemory>
-    requires pieces { length pieces.now ≤ 65536 }
-    requires bytes { text_bytes pieces.now ≤ 1048576 }
+    requires { IsBounded pieces.now }
     ensures list { IfOk result (λ list. list.items ≡ words_of noise.now pieces.now) }
     ensures words { IfOk result (λ list. IsWords list.items) }
 {
@@ -39,8 +38,7 @@ fn stands_of(
     pieces: &[Piece],
     noise: &NoiseList,
 ) -> Result<Vec<(Key, Place)>, OutOfMemory>
-    requires pieces { length pieces.now ≤ 65536 }
-    requires bytes { text_bytes pieces.now ≤ 1048576 }
+    requires { IsBounded pieces.now }
     ensures stands { IfOk result (λ found. found.items ≡ stands noise.now pieces.now) }
     ensures keys { IfOk result (λ found. All (λ stand. IsIndexKey stand.0) found.items) }
 {

@@ -37,9 +37,6 @@ fn statuses_have_their_numbers(rt: HostRuntime) -> Result<(), Fail> {
 
 // The pieces of the copy of a plain transcript: each chunk's numbers, and what it holds.
 fn plain(alloc: Global, path: &str, text: &str) -> Result<String, Fail> {
-    if text.len() > 65_536 {
-        return Err("a short text".into());
-    }
     let path = PathText::read(alloc, path.as_bytes()).ok().ok_or("a path")?;
     let copy = Transcript::plain(alloc, &path, text)?.copy(alloc)?;
     let mut told = String::new(alloc);

@@ -1,8 +1,5 @@
 //! Words at their places, and values.
 
-ghost use Rattle.std.specs.Prelude.{◌≡◌, ◌≤◌, ◌+◌, IfOk, length};
-ghost use Rattle.ci_entry.specs.Entry.{text_bytes};
-
 use crate::table::{Table, unmet};
 use ci_base::{PathText, PropNo, Text, Value};
 use ci_chunk::{Break, ChunkState, Piece, StatChunk, Transcript};
@@ -34,10 +31,7 @@ fn with_text(
     break_type: Break,
     property: u16,
     text: Text,
-) -> Result<Transcript, Fail>
-    ensures count { IfOk result (λ t. length t ≡ length list + 1) }
-    ensures bytes { IfOk result (λ t. text_bytes t ≡ text_bytes list + length text) }
-{
+) -> Result<Transcript, Fail> {
     let mut list = list;
     list.add(Piece::Words {
         chunk: chunk(1, break_type, property),
@@ -47,10 +41,7 @@ fn with_text(
 }
 
 // With a value more.
-fn with_value(list: Transcript, property: u16, value: Value) -> Result<Transcript, Fail>
-    ensures count { IfOk result (λ t. length t ≡ length list + 1) }
-    ensures bytes { IfOk result (λ t. text_bytes t ≡ text_bytes list) }
-{
+fn with_value(list: Transcript, property: u16, value: Value) -> Result<Transcript, Fail> {
     let mut list = list;
     list.add(Piece::Held {
         chunk: chunk(1, Break::Eop, property),
@@ -59,13 +50,7 @@ fn with_value(list: Transcript, property: u16, value: Value) -> Result<Transcrip
     Ok(list)
 }
 
-// A text of at most a thousand bytes.
-fn text(alloc: Global, given: &str) -> Result<Text, Fail>
-    ensures { IfOk result (λ t. length t ≤ 1000) }
-{
-    if given.len() > 1000 {
-        return Err("a short text".into());
-    }
+fn text(alloc: Global, given: &str) -> Result<Text, Fail> {
     Ok(Text::of(alloc, given)?)
 }
 
@@ -109,10 +94,7 @@ fn broken(alloc: Global, break_type: Break, first: &str, second: &str) -> Result
     entry_shown(alloc, &read)
 }
 
-fn entry_shown(alloc: Global, read: &Transcript) -> Result<String, Fail>
-    requires pieces { length read.now ≤ 65536 }
-    requires bytes { text_bytes read.now ≤ 1048576 }
-{
+fn entry_shown(alloc: Global, read: &Transcript) -> Result<String, Fail> {
     let noise = NoiseList::standard(alloc)?;
     shown(alloc, &entry_of(alloc, read, &noise)?)
 }
@@ -175,10 +157,7 @@ fn a_run_goes_on_behind_another_property(rt: HostRuntime) -> Result<(), Fail> {
 }
 
 // Values of six properties, two of them of the right kind and the first.
-fn valued(alloc: Global) -> Result<Transcript, Fail>
-    ensures count { IfOk result (λ t. length t ≡ 6) }
-    ensures bytes { IfOk result (λ t. text_bytes t ≡ 0) }
-{
+fn valued(alloc: Global) -> Result<Transcript, Fail> {
     let read = with_value(Transcript::new(alloc), 5, Value::Int(7))?;
     let read = with_value(read, 5, value(alloc, "red")?)?;
     let read = with_value(read, 5, value(alloc, "blue")?)?;

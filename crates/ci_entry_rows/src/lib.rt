@@ -16,3 +16,4 @@ mod patterns;
 mod pieces;
 #[cfg(test)]
 mod table;
+mod transcripts;

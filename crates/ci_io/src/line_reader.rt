@@ -57,11 +57,14 @@ impl<S: Source + Drop> LineReader<S> {
         }
     }
 
-    /// The source, as far as it was read. What the reader holds is given up.
+    /// The source, as far as it was read. What the reader holds is given up: at most the longest
+    /// line and its line feed.
     pub fn into_source(self) -> S
         ensures left { S.left result ≡ self.left }
         ensures faults { S.faults result ≡ self.faults }
+        ensures held { length self.held ≤ 65537 }
     {
+        let _held = self.buffer.held();
         self.source
     }
 

@@ -1,3 +1,4 @@
+pub mod BoundsLemmas
 pub mod PiecesLemmas
 pub mod RunsOutLemmas
 pub mod DocumentLemmas

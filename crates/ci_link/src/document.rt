@@ -2,7 +2,9 @@ ghost use Rattle.std.specs.Prelude.{◌≡◌, ℕ, List, [], IfOk};
 ghost use Rattle.ci_chunk.specs.Talk.{Talk as Exchanged};
 ghost use Rattle.ci_link.specs.Document.{Hears, IsNearer, Stands, asked, left};
 
-use crate::hear::{hear_chunk, hear_init, hear_text, hear_value};
+use crate::hear::{hear_chunk, hear_init};
+use crate::hear_text::hear_text;
+use crate::hear_value::hear_value;
 use crate::stage::Stage;
 use ci_base::{OutOfMemory, PathText};
 use ci_chunk::{Answer, Call, Transcript};
@@ -14,6 +16,9 @@ const FLAGS: u32 = 80;
 
 /// The most bytes that are asked for at once.
 const MAX: u32 = 65_536;
+
+/// The most bytes of a document's texts and text values.
+pub(crate) const CLIP_BYTES: usize = 1_048_576;
 
 /// A document that is being read.
 #[derive(Drop)]
@@ -70,6 +75,7 @@ impl Document {
 
     /// Hears the answer to that call.
     pub fn hear(mut self, alloc: Global, answer: Answer) -> Result<Next, OutOfMemory>
+        requires { (path : List ℕ) × (talk : Exchanged) × Stands path self talk }
         ensures next { IfOk result (λ next. (path : List ℕ) (talk : Exchanged) →
             Stands path self talk → Hears path talk (asked path self.stage) answer next) }
         ensures nearer { IfOk result (λ next. IsNearer (left self) next) }

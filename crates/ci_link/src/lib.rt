@@ -6,6 +6,8 @@ mod child_spawner;
 mod daemon;
 mod document;
 mod hear;
+mod hear_text;
+mod hear_value;
 mod link;
 mod memory_link;
 mod memory_parts;

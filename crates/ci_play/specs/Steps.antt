@@ -3,7 +3,6 @@ use Rattle.std.specs.Prelude.{◌≡◌, ◌≤◌, ◌+◌, ⊤, All, ℕ, Bool
 use Rattle.ci_change.specs.declared.batch.Batch.{Batch}
 use Rattle.ci_change.specs.declared.notice.What.TheVariants.{Changed}
 use Rattle.ci_journal.specs.declared.event.Happened.TheVariants.{Asked, Put as Putting, BatchDone, Answered, Said}
-use Rattle.ci_chunk.specs.declared.outcome.Outcome.TheVariants.{Done}
 use Rattle.ci_journal.specs.Folds.{next_notice, requests_in}
 use Rattle.ci_journal.specs.Step.{MayPut, MayAnswer, MaySay}
 use Rattle.ci_core.specs.declared.core_fault.CoreFault.{CoreFault}
@@ -15,7 +14,7 @@ use Rattle.ci_core.specs.Core.{Core}
 use Rattle.ci_core.specs.Erasing.{Erases, RefusesErasing}
 use Rattle.ci_core.specs.Opening.{OpensFirst, RefusesOpening}
 use Rattle.ci_core.specs.Refusals.{Refuses}
-use Rattle.ci_core.specs.Serving.{IsIndexable}
+use Rattle.ci_core.specs.Serving.{IsDone}
 use Rattle.ci_core.specs.Steps.{Makes}
 use Rattle.ci_play.specs.declared.step.Step.{Step}
 use Rattle.ci_play.specs.declared.step.Step.TheVariants.{Ask, Note, Put, Erase, BeginBatch, FinishBatch, OpenQuery, Answer, Say}
@@ -26,11 +25,10 @@ Holds core (Ask by request) = by ≡ 0
 Holds core (Note by path what) = by ≡ 0
 Holds core (Put by path seq transcript) =
     MayPut core.terms core.sheet.events by (record { path = path; seq = seq; what = Changed })
-    × IsIndexable (Done transcript)
 Holds core (Erase by path) = ⊤
 Holds core (BeginBatch by max) = 1 ≤ max
 Holds core (FinishBatch by batch outcomes) =
-    CanFinish core.sheet.events by batch outcomes × All IsIndexable outcomes
+    CanFinish core.sheet.events by batch outcomes × All IsDone outcomes
 Holds core (OpenQuery by) = ⊤
 Holds core (Answer by id at paths) = MayAnswer core.terms core.sheet.events id at paths
 Holds core (Say by id reply) = MaySay core.sheet.events id

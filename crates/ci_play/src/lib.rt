@@ -5,7 +5,6 @@ mod answerable;
 mod batch_out;
 mod conditions;
 mod copies;
-mod indexable;
 mod latest;
 mod play;
 mod replay;

@@ -93,7 +93,7 @@ fn play_put<K: Sink + Drop>(
     ensures unrefused { OnOk result (catalog.new.refusal ≡ catalog.old.refusal) }
     ensures fixed { KeepsFixed catalog.old catalog.new }
 {
-    if can_put(catalog.journal().events(), by, &path, seq, &transcript) {
+    if can_put(catalog.journal().events(), by, &path, seq) {
         return catalog.put(by, &path, seq, transcript);
     }
     Ok(())

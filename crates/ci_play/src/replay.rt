@@ -1,6 +1,4 @@
-ghost use Rattle.std.specs.Prelude.{◌≡◌, ◌≤◌, All, Some, None, fold, length, take, IfOk, OnOk};
-ghost use Rattle.ci_core.specs.Serving.{AllIndexable, HasIndexable, IsIndexable};
-ghost use Rattle.ci_chunk.specs.declared.outcome.Outcome.TheVariants.{Done as OutcomeDone};
+ghost use Rattle.std.specs.Prelude.{◌≡◌, ◌≤◌, Some, None, fold, length, take, IfOk, OnOk};
 ghost use Rattle.ci_core.specs.Core.{terms_of};
 ghost use Rattle.ci_journal.specs.Filings.{Filings, fate_of, fates, fates_at_end, filing};
 ghost use Rattle.ci_journal.specs.Served.{hits, live_map, serve, served_by};
@@ -33,7 +31,6 @@ pub fn hits_at(
 ) -> Result<Paths, OutOfMemory>
     requires within { at ≤ length journal.now }
     requires run { let terms : Terms = terms_of noise.now in Run terms journal.now }
-    requires indexable { AllIndexable journal.now }
     ensures { let terms : Terms = terms_of noise.now in
         IfOk result (λ paths. paths ≡ hits tree.now (live_map terms (take at journal.now))) }
 {
@@ -81,7 +78,6 @@ impl Replay {
     ) -> Result<Replay, OutOfMemory>
         requires within { at ≤ length journal.now }
         requires run { let terms : Terms = terms_of noise.now in Run terms journal.now }
-        requires indexable { AllIndexable journal.now }
         ensures { let terms : Terms = terms_of noise.now in
             IfOk result (λ r. Tells (served_by terms (fates (take at journal.now))) r) }
     {
@@ -107,7 +103,6 @@ impl Replay {
         journal: &[Event],
         what: &Happened,
     ) -> Result<(), OutOfMemory>
-        requires { HasIndexable what.now }
         ensures { let terms : Terms = terms_of noise.now in (filed : Filings) →
             FindsDone journal.now filed what.now →
             Tells (served_by terms filed.filed) self.old →
@@ -151,7 +146,6 @@ impl Replay {
         docs: &[(PathText, Seq)],
         outcomes: &[Outcome],
     ) -> Result<(), OutOfMemory>
-        requires { All IsIndexable outcomes.now }
         ensures { let terms : Terms = terms_of noise.now in (served : Served) →
             Tells served self.old → OnOk result
             (Tells (fold (serve terms) served (fates_at_end docs.now (Through outcomes.now))) self.new) }
@@ -170,12 +164,15 @@ impl Replay {
         seq: Seq,
         outcome: &Outcome,
     ) -> Result<(), OutOfMemory>
-        requires { IsIndexable outcome.now }
         ensures { let terms : Terms = terms_of noise.now in (served : Served) →
             Tells served self.old → OnOk result (Tells
             (serve terms served (filing (path.now, seq) (fate_of outcome.now))) self.new) }
     {
-        self.fill(noise, path, seq, transcript_of(outcome))
+        match outcome {
+            Outcome::Done(transcript) => self.fill(noise, path, seq, transcript),
+            Outcome::Failed(_) => Ok(()),
+            Outcome::Refused(_) => Ok(()),
+        }
     }
 
     // The document was filtered to this transcript.
@@ -186,7 +183,6 @@ impl Replay {
         seq: Seq,
         transcript: &Transcript,
     ) -> Result<(), OutOfMemory>
-        requires { IsIndexable (OutcomeDone transcript.now) }
         ensures { let terms : Terms = terms_of noise.now in (served : Served) →
             Tells served self.old → OnOk result (Tells (serve terms served
             (record { path = path.now; seq = seq; fate = Filtered transcript.now })) self.new) }
@@ -211,16 +207,5 @@ impl Replay {
             take_away(&mut self.documents, path);
         }
         Ok(())
-    }
-}
-
-fn transcript_of(outcome: &Outcome) -> &Transcript
-    requires { IsIndexable outcome.now }
-    ensures { OutcomeDone result.now ≡ outcome.now }
-{
-    match outcome {
-        Outcome::Done(transcript) => transcript,
-        Outcome::Failed(_) => unreachable!(),
-        Outcome::Refused(_) => unreachable!(),
     }
 }

@@ -8,9 +8,8 @@ use Rattle.ci_dialect.specs.Rule as rule
 use Rattle.ci_dialect.specs.Rule.{Comes, Leads, Others, Rule, Give, Fail, Look, Pass, Expect, Piece, Value, Items, Then, Repeat}
 use Rattle.ci_dialect.specs.Step.{Outcome, expect, items, piece, sees, value}
 use Rattle.ci_query.specs.Reading.{Reader, and_then, pure, read, repeated, turns, ◌>>=◌}
-use Rattle.ci_query.proofs.RepeatLemmas.{one_turn, turns-end, turns-later, turns-read, turns-this}
-use Rattle.ci_query.proofs.ShrinkLemmas.{left-behind}
-use Rattle.ci_query.proofs.SignLemmas.{length-next}
+use Rattle.ci_query.proofs.RepeatLemmas.{length-next, one_turn, turns-end, turns-later, turns-read, turns-this}
+use Rattle.ci_query.proofs.EndLemmas.{left-behind}
 
 -- ---- one behind the other
 
@@ -98,7 +97,3 @@ comes-read (Repeat s rule more) l =
 
 pub others-come : (s : Sign) (r : Rule) (l : Left) → AreOthers s r l (repeated s (λ m. read r m) l)
 others-come s r l = others-to s r (λ m. comes-read r m) (length l.pieces) l (omega arith)
-
--- a rule comes to one thing alone
-pub comes-same : (r : Rule) (l : Left) (o p : Outcome Restriction) → Comes r l o → Comes r l p → o ≡ p
-comes-same r l o p one other = comes-one r l o one ∙ sym (comes-one r l p other)

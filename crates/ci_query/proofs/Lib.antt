@@ -1,13 +1,6 @@
 pub mod ComesLemmas
-pub mod ItemLemmas
-pub mod NumberLemmas
+pub mod EndLemmas
 pub mod ParseLemmas
 pub mod PhraseLemmas
-pub mod PrefixLemmas
 pub mod RepeatLemmas
-pub mod RepetitionLemmas
-pub mod ShrinkLemmas
-pub mod SignLemmas
-pub mod TurnLemmas
-pub mod WellFormedTerms
 pub mod WellFormedTrees

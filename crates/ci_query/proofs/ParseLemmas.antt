@@ -1,68 +1,45 @@
--- A level of nesting, and the whole of a text.
-use Rattle.std.proofs.Common.{◌≡◌, ◌≢◌, ◌⊎◌, IfErr, IfOk, IsSome, ℕ, suc, ◌-◌, ◌<◌, List, length, Result, Ok, Err, refl, sym, ap, ◌∙◌, subst, inl, inr, arith}
-use Rattle.ci_pieces.specs.Cut.{Cut}
-use Rattle.ci_pieces.specs.Pieces.{pieces}
+-- The whole of a text.
+use Rattle.std.proofs.Common.{◌≡◌, ◌≢◌, ◌⊎◌, IfErr, IfOk, IsSome, ℕ, List, Result, Ok, Err, refl, sym, ap, ◌∙◌, subst, inl, inr}
 use Rattle.ci_dialect.specs.declared.fault.QueryFault.{QueryFault}
-use Rattle.ci_dialect.specs.declared.fault.QueryFault.TheVariants.{OutOfMemory, TooDeep}
+use Rattle.ci_dialect.specs.declared.fault.QueryFault.TheVariants.{OutOfMemory}
 use Rattle.ci_dialect.specs.declared.restriction.Restriction.{Restriction}
-use Rattle.ci_dialect.specs.declared.sign.Opener.{Opener}
 use Rattle.ci_dialect.specs.Fault.{met_in}
 use Rattle.ci_dialect.specs.FirstFault.{IsFirstFault}
-use Rattle.ci_dialect.specs.Grammar.{behind, opened, whole}
-use Rattle.ci_dialect.specs.Left.{Left, next, place, start}
+use Rattle.ci_dialect.specs.Grammar.{whole}
+use Rattle.ci_dialect.specs.Left.{Left, start}
 use Rattle.ci_dialect.specs.Rule.{Comes}
 use Rattle.ci_dialect.specs.Step.{Outcome}
 use Rattle.ci_dialect.specs.Tree.{IsTree}
 use Rattle.ci_dialect.specs.WellFormed.{IsWellFormed}
 use Rattle.ci_query.specs.Reading.{Reads, read}
 use Rattle.ci_query.proofs.ComesLemmas.{comes-one, comes-read}
-use Rattle.ci_query.proofs.WellFormedTrees.{whole-gives, Gives}
-
-pub opened-none : (noise : List (List ℕ)) (depth : ℕ) (by : Opener) (l : Left) → depth ≡ 0 → read (opened noise depth by) l ≡ Err (TooDeep (place l))
-unfolding opened
-opened-none noise depth by l none = ap (λ n. read (opened noise n by) l) none
-
-pub opened-some : (noise : List (List ℕ)) (depth : ℕ) (by by' : Opener) (l l' : Left) → 0 < depth → by ≡ by' → l' ≡ next l
-    → read (opened noise depth by) l ≡ read (behind noise (opened noise (depth - 1)) by') l'
-unfolding opened
-opened-some noise depth by by' l l' some same step =
-    let deeper : depth ≡ suc (depth - 1) = omega arith in
-    ap (λ n. read (opened noise n by) l) deeper
-    ∙ ap (λ b. read (behind noise (opened noise (depth - 1)) b) (next l)) same
-    ∙ ap (λ m. read (behind noise (opened noise (depth - 1)) by') m) (sym step)
-
-pub start-of : (text : List ℕ) (found : List Cut) (size : ℕ) (l : Left) → l ≡ record { pieces = found; words = 0; size = size } → found ≡ pieces text → size ≡ length text → l ≡ start text
-start-of text found size l is made len = is ∙ ap (λ ps. record { pieces = ps; words = 0; size = size }) made ∙ ap (λ n. record { pieces = pieces text; words = 0; size = n }) len
+use Rattle.ci_query.proofs.EndLemmas.{Ends, IsOf, Well, ends}
+use Rattle.ci_query.proofs.WellFormedTrees.{IsMet, whole-yields}
 
 -- ---- the one tree or the first fault of a text
 
-tree_of : Restriction → Outcome Restriction → Restriction
+abbrev tree_of : Restriction → Outcome Restriction → Restriction
 tree_of other (Ok found) = found.0
 tree_of other (Err fault) = other
 
 -- one outcome has one tree
 tree-same : (o : Outcome Restriction) {tree other : Restriction} {l m : Left} → Ok (tree, l) ≡ o → Ok (other, m) ≡ o → tree ≡ other
-unfolding tree_of
 tree-same o {tree = tree} one another = ap (tree_of tree) one ∙ sym (ap (tree_of tree) another)
 
 module _ (noise : List (List ℕ)) (text : List ℕ) where
-  whole-read : Outcome Restriction
+  abbrev whole-read : Outcome Restriction
   whole-read = read (whole noise) (start text)
 
   tree-comes : (tree : Restriction) (rest : Left) → whole-read ≡ Ok (tree, rest) → IsTree noise text tree
-  unfolding whole-read
   tree-comes tree rest reads = record { rest = rest; comes = subst (λ o. Comes (whole noise) (start text) o) reads (comes-read (whole noise) (start text)) }
 
   fault-comes : (fault : QueryFault) → whole-read ≡ Err fault → IsFirstFault noise text fault
-  unfolding whole-read
   fault-comes fault reads = record { comes = subst (λ o. Comes (whole noise) (start text) o) reads (comes-read (whole noise) (start text)) }
 
   tree-read : (tree : Restriction) (is : IsTree noise text tree) → Ok (tree, is.rest) ≡ whole-read
-  unfolding whole-read
   tree-read tree is = comes-one (whole noise) (start text) (Ok (tree, is.rest)) is.comes
 
   fault-read : (fault : QueryFault) → IsFirstFault noise text fault → Err fault ≡ whole-read
-  unfolding whole-read
   fault-read fault is = comes-one (whole noise) (start text) (Err fault) is.comes
 
   pub one_tree : (tree other : Restriction) → IsTree noise text tree → IsTree noise text other → tree ≡ other
@@ -81,45 +58,39 @@ module _ (noise : List (List ℕ)) (text : List ℕ) where
   pub tree_or_fault : ((tree : Restriction) × IsTree noise text tree) ⊎ ((fault : QueryFault) × IsFirstFault noise text fault)
   tree_or_fault = either-so whole-read refl
 
-  gives-so : Gives IsWellFormed whole-read
-  unfolding whole-read
-  gives-so = whole-gives noise (start text)
+  abbrev IsRight : Outcome Restriction → Type 0
+  IsRight o = Ends IsMet (IsOf Well) (start text) o
+
+  right-so : IsRight whole-read
+  right-so = ends IsMet (λ fault met. met) (whole noise) Well (whole-yields noise) (start text)
 
   pub tree-well : (tree : Restriction) → IsTree noise text tree → IsWellFormed tree
-  tree-well tree is = subst (Gives IsWellFormed) (sym (tree-read tree is)) gives-so
+  tree-well tree is = (subst IsRight (sym (tree-read tree is)) right-so).0
 
   pub fault-met : (fault : QueryFault) → IsFirstFault noise text fault → IsSome (met_in fault)
-  fault-met fault is = subst (Gives IsWellFormed) (sym (fault-read fault is)) gives-so
+  fault-met fault is = subst IsRight (sym (fault-read fault is)) right-so
 
   -- ---- what a call answers that reads the whole
 
-  abbrev pub Answers : Result Restriction QueryFault → Left → Type 0
-  Answers r new = Reads (read (whole noise) (start text)) r new
-
-  pub from-start : (l new : Left) (r : Result Restriction QueryFault) → l ≡ start text → Reads (read (whole noise) l) r new → Answers r new
-  from-start l new r begins reads = subst (λ m. Reads (read (whole noise) m) r new) begins reads
+  abbrev Answers : Result Restriction QueryFault → Left → Type 0
+  Answers r new = Reads whole-read r new
 
   pub given-tree : (r : Result Restriction QueryFault) (new : Left) → Answers r new → IfOk r (λ tree. IsTree noise text tree)
-  unfolding whole-read
   given-tree (Ok tree) new reads = tree-comes tree new reads
   given-tree (Err fault) new reads = tt
 
   pub given-fault : (r : Result Restriction QueryFault) (new : Left) → Answers r new → IfErr r (λ fault. fault ≢ OutOfMemory → IsFirstFault noise text fault)
-  unfolding whole-read
   given-fault (Ok tree) new reads = tt
   given-fault (Err fault) new reads = λ other. fault-comes fault (reads other)
 
   pub given-every_tree : (r : Result Restriction QueryFault) (new : Left) → Answers r new → (tree : Restriction) → IsTree noise text tree → r ≢ Err OutOfMemory → r ≡ Ok tree
-  unfolding whole-read
   given-every_tree (Ok found) new reads tree is other = ap (λ t. Ok t) (tree-same whole-read (sym reads) (tree-read tree is))
   given-every_tree (Err fault) new reads tree is other = let same = tree-read tree is ∙ reads (λ e. other (ap (λ f. Err f) e)) in cc
 
   pub given-every_fault : (r : Result Restriction QueryFault) (new : Left) → Answers r new → (fault : QueryFault) → IsFirstFault noise text fault → r ≢ Err OutOfMemory → r ≡ Err fault
-  unfolding whole-read
   given-every_fault (Ok found) new reads fault is other = let same = fault-read fault is ∙ reads in cc
   given-every_fault (Err found) new reads fault is other = let same = fault-read fault is ∙ reads (λ e. other (ap (λ f. Err f) e)) in cc
 
   pub given-well_formed : (r : Result Restriction QueryFault) (new : Left) → Answers r new → IfOk r IsWellFormed
-  unfolding whole-read
   given-well_formed (Ok tree) new reads = tree-well tree (tree-comes tree new reads)
   given-well_formed (Err fault) new reads = tt

@@ -1,10 +1,11 @@
 -- Each tree that the grammar gives is well formed, and each fault is one of a text.
-use Rattle.std.proofs.Common.{◌≡◌, ℕ, zero, suc, ◌==◌, true, false, List, [], ◌∷◌, length, Option, Some, None, Result, Ok, Err, IsSome, codes, find, if◌then◌else◌, refl, ap, ◌∙◌, inl, inr}
+use Rattle.std.proofs.Common.{◌≡◌, ◌≢◌, ℕ, zero, suc, ◌==◌, Bool, true, false, List, [], ◌∷◌, Option, Some, None, Result, Ok, Err, IsSome, codes, find, if◌then◌else◌, refl, sym, ap, ◌∙◌, subst, inl, inr}
 use Rattle.std.specs.Bool.{⊤}
 use Rattle.std.specs.List.{AllByRecursion}
 use Rattle.std.specs.Str.{str_eq_ignore_ascii_case}
 use Rattle.std.proofs.lemmas.Bool.{cases_Bool, eqb-true}
 use Rattle.std.specs.Prelude.{ℤ}
+use mathlib.Core.Former.{Count}
 use Rattle.ci_base.specs.declared.numbers.PropNo.{PropNo}
 use Rattle.ci_props.specs.declared.property.Kind.{Kind}
 use Rattle.ci_props.specs.declared.property.Kind.TheVariants as property_kind
@@ -15,82 +16,84 @@ use Rattle.ci_pieces.specs.declared.piece.PieceKind.TheVariants as kind
 use Rattle.ci_pieces.specs.Cut.{Cut}
 use Rattle.ci_dialect.specs.declared.fault.QueryFault.{QueryFault}
 use Rattle.ci_dialect.specs.declared.fault.QueryFault.TheVariants.{Bad}
-use Rattle.ci_dialect.specs.declared.restriction.Restriction.{Restriction}
+use Rattle.ci_dialect.specs.declared.restriction.Restriction.{Restriction, Row_of-Restriction, end_of-Restriction, more_of-Restriction, items-the_row-Restriction, items_hidden-the_row-Restriction-0}
 use Rattle.ci_dialect.specs.declared.restriction.Restriction.TheVariants as restriction
 use Rattle.ci_dialect.specs.declared.sign.Opener.{Opener}
 use Rattle.ci_dialect.specs.declared.sign.Opener.TheVariants as opener
-use Rattle.ci_dialect.specs.declared.sign.Sign.{Sign}
 use Rattle.ci_dialect.specs.declared.sign.Sign.TheVariants as sign
 use Rattle.ci_dialect.specs.declared.slots.Slot.{Slot}
 use Rattle.ci_dialect.specs.declared.slots.Slot.TheVariants.{Word, Open}
 use Rattle.ci_dialect.specs.Fault.{met_in}
 use Rattle.ci_dialect.specs.Grammar.{all, end_by, near, near_by, near_operand, near_others, negation, negation_by, opened, pattern_term, prime, prime_by, property_by, property_term, query, same_property, settle, whole, words, words_of_property}
-use Rattle.ci_dialect.specs.Joined.{contents, property_in}
-use Rattle.ci_dialect.specs.Left.{Left, ahead, next, place, place_in}
+use Rattle.ci_dialect.specs.Joined.{contents, joined, property_in}
+use Rattle.ci_dialect.specs.Left.{ahead, place, place_in}
 use Rattle.ci_dialect.specs.Rule.{Rule, Give}
-use Rattle.ci_dialect.specs.Step.{Outcome, counted, expect, first_of, items, items_of, piece, sees, too_long, value, value_by}
-use Rattle.ci_dialect.specs.Values.{compared, compared_by, compared_number, is_prefix, known, number_of, patterned, patterned_by, scoped, worded_by}
-use Rattle.ci_dialect.specs.WellFormed.{IsTerm, IsWellFormed}
-use Rattle.ci_dialect.specs.Words.{is_noise, is_prefix_run, is_starred, phrase, prefix_said, restriction_of, said, said_by, slots_of, without_star, words_of}
-use Rattle.ci_query.specs.Reading.{Reader, and_then, pure, read, repeated, turns, ◌>>=◌}
-use Rattle.ci_query.proofs.WellFormedTerms.{well-and, well-near, well-not, well-or, well-term}
+use Rattle.ci_dialect.specs.Step.{sees}
+use Rattle.ci_dialect.specs.Values.{compared_by, compared_number, is_prefix, known, number_of, patterned, patterned_by, scoped, worded_by}
+use Rattle.ci_dialect.specs.WellFormed.{AreTerms, AreWellFormed, IsTerm, IsWellFormed}
+use Rattle.ci_dialect.proofs.TreeLemmas.{row_of}
+use Rattle.ci_dialect.specs.Words.{is_noise, is_prefix_run, is_starred, phrase, prefix_said, said, said_by, slots_of, without_star, words_of}
+use Rattle.ci_query.proofs.EndLemmas.{Form, Keeps, Term, Well}
 
--- what was read is so, or the fault has a place in the text
-abbrev pub Gives : {A : Type 0} → (A → Type 0) → Outcome A → Type 0
-Gives P (Ok found) = P found.0
-Gives P (Err fault) = IsSome (met_in fault)
+-- the fault has a place in the text
+abbrev pub IsMet : QueryFault → Type 0
+IsMet fault = IsSome (met_in fault)
 
-then-gives : {A B : Type 0} (Q : A → Type 0) (P : B → Type 0) (a : Outcome A) (f : A → Reader B) → Gives Q a → ((x : A) (m : Left) → Q x → Gives P (f x m)) → Gives P (and_then a f)
-then-gives Q P (Ok found) f first rest = rest found.0 found.1 first
-then-gives Q P (Err fault) f first rest = first
+-- the rule gives trees of the form, and such faults
+abbrev Yields : Rule → Form → Type 0
+Yields rule form = Keeps IsMet rule form
 
--- ---- what is taken
+-- ---- how well formed restrictions are joined
 
-abbrev IsAny : {A : Type 0} → A → Type 0
-IsAny x = ⊤
+well-not : (r : Restriction) → IsWellFormed r → IsWellFormed (restriction.Not r)
+unfolding Rattle.ci_dialect.specs.declared.restriction.Restriction.TheBlock.hidden-the_row-Restriction-1 denote.Hole.Carrier.hidden
+well-not r well = (well, tt)
 
-first_of-gives : (pieces : List Cut) (l : Left) → Gives IsAny (first_of pieces l)
-first_of-gives [] l = refl
-first_of-gives (piece ∷ more) l = tt
+to-row : (m : Count) (row : Row_of-Restriction m) → AllByRecursion IsWellFormed (items-the_row-Restriction m row) → AreWellFormed row
+to-row m end_of-Restriction well = tt
+to-row m (more_of-Restriction r rest) well = (well.0, to-row _ rest well.1)
 
-value_by-gives : (k : Option PieceKind) (l : Left) → Gives IsAny (value_by k l)
-value_by-gives (Some kind.Quoted) l = first_of-gives l.pieces l
-value_by-gives (Some kind.Bare) l = first_of-gives l.pieces l
-value_by-gives _ l = refl
+-- there is an operand, and each is well formed
+abbrev AreOperands : List Restriction → Type 0
+AreOperands all = (all ≢ []) × AllByRecursion IsWellFormed all
 
-expect-gives : (s : Sign) (l : Left) → Gives IsAny (expect s l)
-expect-gives s l =
-    elim (sees s l) as (λ b. Gives {A = Unit {0}} IsAny (if b then Ok (tt, next l) else Err (Bad (place l)))) [
-      | true ↦ tt
-      | false ↦ refl
-    ]
+-- two operands and more
+well-operands : (first second : Restriction) (more : List Restriction) → IsWellFormed first → AllByRecursion IsWellFormed (second ∷ more) → IsWellFormed (restriction.And (first ∷ second ∷ more))
+well-operands first second more well others =
+    let all = first ∷ second ∷ more in
+    let row = row_of (restriction.And all) in
+    let operands : AreOperands all = (λ none. cc, (well, others)) in
+    let listed = subst AreOperands (sym (items_hidden-the_row-Restriction-0 all)) operands in
+    (listed.0, to-row row.0 row.1 listed.1)
 
-counted-gives : (many : Option ℕ) (found : List Cut) (l : Left) → Gives IsAny (counted many found l)
-counted-gives (Some at) found l = refl
-counted-gives None found l = tt
+well-and : (first : Restriction) (others : List Restriction) → IsWellFormed first → AllByRecursion IsWellFormed others → IsWellFormed (joined restriction.And first others)
+well-and first [] well others = well
+well-and first (second ∷ more) well others = well-operands first second more well others
 
-items-gives : (l : Left) → Gives IsAny (items l)
-items-gives l = counted-gives (too_long l.words (items_of l.pieces)) (items_of l.pieces) l
+well-or : (first : Restriction) (others : List Restriction) → IsWellFormed first → AllByRecursion IsWellFormed others → IsWellFormed (joined restriction.Or first others)
+well-or first [] well others = well
+well-or first (second ∷ more) well others = well-operands first second more well others
 
-turns-give : {A : Type 0} (s : Sign) (P : A → Type 0) (rule : Reader A) → ((l : Left) → Gives P (rule l)) → (k : ℕ) (l : Left) → Gives (AllByRecursion P) (turns s rule k l)
-turns-give s P rule each zero l = tt
-turns-give s P rule each (suc k) l =
-    elim (sees s l) as (λ b. Gives (AllByRecursion P) ((if b then (rule >>= (λ found. turns s rule k >>= (λ others. pure (found ∷ others)))) else pure []) (if b then next l else l))) [
-      | true ↦
-          then-gives P (AllByRecursion P) (rule (next l)) _ (each (next l))
-          (λ x m one. then-gives (AllByRecursion P) (AllByRecursion P) (turns s rule k m) _ (turns-give s P rule each k m) (λ xs n others. (one, others)))
-      | false ↦ tt
-    ]
+-- ---- terms of `~`
+
+well-term : (r : Restriction) (property : PropNo) → IsWellFormed r → property_in r ≡ Some property → IsTerm property r
+unfolding property_in
+well-term (restriction.Content other word prefix) property well is = cc
+well-term (restriction.Phrase other slots) property well is = let same : other ≡ property = cc in (same, well)
+well-term _ property well is = cc
+
+well-near : (property : PropNo) (first : Restriction) (others : List Restriction) → IsTerm property first → AllByRecursion (IsTerm property) others → IsWellFormed (restriction.Proximity property (first ∷ others))
+well-near property first others well rest =
+    subst (AreTerms property) (sym (items_hidden-the_row-Restriction-0 (first ∷ others))) (λ none. cc, (well, rest))
 
 -- ---- what terms say
 
 abbrev Says : Result Restriction QueryFault → Type 0
-Says (Ok tree) = IsWellFormed tree
-Says (Err fault) = IsSome (met_in fault)
+Says r = Yields (settle r) Well
 
-settle-gives : (r : Result Restriction QueryFault) → Says r → (l : Left) → Gives IsWellFormed (read (settle r) l)
-settle-gives (Ok tree) says l = says
-settle-gives (Err fault) says l = says
+if-says : (b : Bool) (one other : Result Restriction QueryFault) → Says one → Says other → Says (if b then one else other)
+if-says true one other says more = says
+if-says false one other says more = more
 
 -- places without the open ones at either end begin with a word, if there are any
 abbrev BeginsWithWord : List Slot → Type 0
@@ -113,11 +116,7 @@ phrase-says property at (Word word ∷ second ∷ more) begins = tt
 phrase-says property at (Open ∷ more) begins = absurd begins
 
 prefix-says : (property : PropNo) (run : Cut) (items : List Cut) (words : List (List ℕ)) → Says (prefix_said property run items words)
-prefix-says property run (item ∷ []) (word ∷ []) =
-    elim (is_starred (without_star run.text)) as (λ b. Says (if b then Err (Bad run.at) else Ok (restriction.Content property word true))) [
-      | true ↦ refl
-      | false ↦ tt
-    ]
+prefix-says property run (item ∷ []) (word ∷ []) = if-says (is_starred (without_star run.text)) (Err (Bad run.at)) (Ok (restriction.Content property word true)) refl tt
 prefix-says property run (item ∷ []) [] = refl
 prefix-says property run (item ∷ []) (word ∷ second ∷ more) = refl
 prefix-says property run [] ws = refl
@@ -148,128 +147,107 @@ by_kind-says (Some (property, property_kind.Int)) name given = refl
 by_kind-says (Some (property, property_kind.Str)) name given = tt
 
 scoped-says : (given : Cut) → Says (scoped given)
-scoped-says given =
-    elim (is_prefix given.text) as (λ b. Says (if b then Ok (restriction.Scope (prefix_of given.text)) else Err (Bad given.at))) [
-      | true ↦ tt
-      | false ↦ refl
-    ]
+scoped-says given = if-says (is_prefix given.text) (Ok (restriction.Scope (prefix_of given.text))) (Err (Bad given.at)) tt refl
 
 patterned-says : (name given : Cut) → Says (patterned name given)
 patterned-says name given =
-    elim (str_eq_ignore_ascii_case name.text (codes "scope")) as (λ b. Says (if b then scoped given else patterned_by (known name.text) name given)) [
-      | true ↦ scoped-says given
-      | false ↦ by_kind-says (known name.text) name given
-    ]
+    if-says (str_eq_ignore_ascii_case name.text (codes "scope")) (scoped given) (patterned_by (known name.text) name given) (scoped-says given) (by_kind-says (known name.text) name given)
 
 -- ---- terms
 
-pattern-gives : (l : Left) → Gives IsWellFormed (read pattern_term l)
+pattern-yields : Yields pattern_term Well
 unfolding pattern_term
-pattern-gives l =
-    then-gives IsAny IsWellFormed (piece l) _ (first_of-gives l.pieces l)
-    (λ name m any. then-gives IsAny IsWellFormed (value m) _ (value_by-gives (ahead m) m) (λ given n any. settle-gives (patterned name given) (patterned-says name given) n))
+pattern-yields = λ name given. patterned-says name given
 
 module _ (noise : List (List ℕ)) where
-  words-gives : (l : Left) → Gives IsWellFormed (read (words noise) l)
+  words-yield : Yields (words noise) Well
   unfolding words
-  words-gives l = then-gives IsAny IsWellFormed (items l) _ (items-gives l) (λ found m any. settle-gives (restriction_of noise contents found) (by-says (find is_prefix_run found) noise contents found) m)
+  words-yield = λ found. by-says (find is_prefix_run found) noise contents found
 
-  of_property-gives : (found : List Cut) (name : Cut) (k : Option (PropNo × Kind)) (l : Left) → Gives IsWellFormed (read (words_of_property noise found (worded_by k name)) l)
-  of_property-gives found name None l = refl
-  of_property-gives found name (Some (property, property_kind.Int)) l = refl
-  of_property-gives found name (Some (property, property_kind.Words)) l = settle-gives (restriction_of noise property found) (by-says (find is_prefix_run found) noise property found) l
-  of_property-gives found name (Some (property, property_kind.Str)) l = settle-gives (restriction_of noise property found) (by-says (find is_prefix_run found) noise property found) l
+  of_property-yields : (found : List Cut) (name : Cut) (k : Option (PropNo × Kind)) → Yields (words_of_property noise found (worded_by k name)) Well
+  of_property-yields found name None = refl
+  of_property-yields found name (Some (property, property_kind.Int)) = refl
+  of_property-yields found name (Some (property, property_kind.Words)) = by-says (find is_prefix_run found) noise property found
+  of_property-yields found name (Some (property, property_kind.Str)) = by-says (find is_prefix_run found) noise property found
 
-  by_name-gives : (name : Cut) (k : Option PieceKind) (l : Left) → Gives IsWellFormed (read (property_by noise name k) l)
-  by_name-gives name (Some kind.Run) l = then-gives IsAny IsWellFormed (items l) _ (items-gives l) (λ found m any. of_property-gives found name (known name.text) m)
-  by_name-gives name (Some kind.Quoted) l = then-gives IsAny IsWellFormed (items l) _ (items-gives l) (λ found m any. of_property-gives found name (known name.text) m)
-  by_name-gives name (Some (kind.Relates relation)) l =
-      then-gives IsAny IsWellFormed (value (next l)) _ (value_by-gives (ahead (next l)) (next l)) (λ given m any. settle-gives (compared name relation given) (compared-says (known name.text) name relation given) m)
-  by_name-gives name _ l = refl
+  by_name-yields : (name : Cut) (k : Option PieceKind) → Yields (property_by noise name k) Well
+  by_name-yields name (Some kind.Run) = λ found. of_property-yields found name (known name.text)
+  by_name-yields name (Some kind.Quoted) = λ found. of_property-yields found name (known name.text)
+  by_name-yields name (Some (kind.Relates relation)) = λ given. compared-says (known name.text) name relation given
+  by_name-yields name _ = λ l. refl
 
-  property-gives : (l : Left) → Gives IsWellFormed (read (property_term noise) l)
+  property-yields : Yields (property_term noise) Well
   unfolding property_term
-  property-gives l = then-gives IsAny IsWellFormed (piece l) _ (first_of-gives l.pieces l) (λ name m any. by_name-gives name (ahead m) m)
+  property-yields = λ name l. by_name-yields name (ahead l)
 
 -- ---- rules that hold others
 
-term-gives : (property : PropNo) (at : ℕ) (t : Restriction) (found : Option PropNo) → property_in t ≡ found → IsWellFormed t → (l : Left) → Gives (IsTerm property) (read (settle (same_property property at t found)) l)
-term-gives property at t None is well l = refl
-term-gives property at t (Some other) is well l =
+term-yields : (property : PropNo) (at : ℕ) (t : Restriction) (found : Option PropNo) → property_in t ≡ found → IsWellFormed t → Yields (settle (same_property property at t found)) (Term property)
+term-yields property at t None is well = refl
+term-yields property at t (Some other) is well =
     elim (cases_Bool (other.0 == property.0)) [
       | inl same ↦ rw same (well-term t property well (is ∙ ap (λ n. Some (record { 0 = n })) (eqb-true other.0 property.0 same)))
       | inr apart ↦ rw apart refl
     ]
 
-module _ (noise : List (List ℕ)) (inside : Opener → Rule) (inner : (by : Opener) (l : Left) → Gives IsWellFormed (read (inside by) l)) where
-  by_kind-gives : (k : Option PieceKind) (l : Left) → Gives IsWellFormed (read (prime_by noise inside k) l)
-  by_kind-gives (Some kind.Open) l =
-      then-gives IsWellFormed IsWellFormed (read (inside opener.Parenthesis) l) _ (inner opener.Parenthesis l)
-      (λ t m well. then-gives IsAny IsWellFormed (expect sign.Close m) _ (expect-gives sign.Close m) (λ closed n any. well))
-  by_kind-gives (Some kind.Run) l = words-gives noise l
-  by_kind-gives (Some kind.Quoted) l = words-gives noise l
-  by_kind-gives (Some kind.Property) l = property-gives noise l
-  by_kind-gives (Some kind.Pattern) l = pattern-gives l
-  by_kind-gives _ l = refl
+module _ (noise : List (List ℕ)) (inside : Opener → Rule) (inner : (by : Opener) → Yields (inside by) Well) where
+  by_kind-yields : (k : Option PieceKind) → Yields (prime_by noise inside k) Well
+  by_kind-yields (Some kind.Open) = (Well, inner opener.Parenthesis, λ tree well. well)
+  by_kind-yields (Some kind.Run) = words-yield noise
+  by_kind-yields (Some kind.Quoted) = words-yield noise
+  by_kind-yields (Some kind.Property) = property-yields noise
+  by_kind-yields (Some kind.Pattern) = pattern-yields
+  by_kind-yields _ = λ l. refl
 
-  prime-gives : (l : Left) → Gives IsWellFormed (read (prime noise inside) l)
+  prime-yields : Yields (prime noise inside) Well
   unfolding prime
-  prime-gives l = by_kind-gives (ahead l) l
+  prime-yields = λ l. by_kind-yields (ahead l)
 
-  operand-gives : (property : PropNo) (l : Left) → Gives (IsTerm property) (read (near_operand noise inside property) l)
+  operand-yields : (property : PropNo) → Yields (near_operand noise inside property) (Term property)
   unfolding near_operand
-  operand-gives property l =
-      then-gives IsWellFormed (IsTerm property) (read (prime noise inside) l) _ (prime-gives l) (λ t m well. term-gives property (place l) t (property_in t) refl well m)
+  operand-yields property = λ l. (Well, prime-yields, λ tree well. term-yields property (place l) tree (property_in tree) refl well)
 
-  more-give : (at : ℕ) (first : Restriction) → IsWellFormed first → (found : Option PropNo) → property_in first ≡ found → (l : Left) → Gives IsWellFormed (read (near_by noise inside at first found) l)
-  more-give at first well None is l = refl
-  more-give at first well (Some property) is l =
-      then-gives (AllByRecursion (IsTerm property)) IsWellFormed (repeated sign.Near (λ m. read (near_operand noise inside property) m) l) _
-      (turns-give sign.Near (IsTerm property) (λ m. read (near_operand noise inside property) m) (operand-gives property) (length l.pieces) l)
-      (λ others n terms. well-near property first others (well-term first property well is) terms)
+  more-yield : (at : ℕ) (first : Restriction) → IsWellFormed first → (found : Option PropNo) → property_in first ≡ found → Yields (near_by noise inside at first found) Well
+  more-yield at first well None is = refl
+  more-yield at first well (Some property) is = (Term property, operand-yields property, λ others terms. well-near property first others (well-term first property well is) terms)
 
-  near-gives : (l : Left) → Gives IsWellFormed (read (near noise inside) l)
+  near-yields : Yields (near noise inside) Well
   unfolding near near_others
-  near-gives l =
-      then-gives IsWellFormed IsWellFormed (read (prime noise inside) l) _ (prime-gives l)
-      (λ t m well. elim (sees sign.Near m) as (λ b. Gives IsWellFormed (read (if b then near_others noise inside (place l) t else Give t) m)) [
-        | true ↦ more-give (place l) t well (property_in t) refl m
-        | false ↦ well
-      ])
+  near-yields = λ l. (
+    Well,
+    prime-yields,
+    λ first well m. elim (sees sign.Near m) as (λ b. Yields (if b then near_others noise inside (place l) first else Give first) Well) [
+      | true ↦ more-yield (place l) first well (property_in first) refl
+      | false ↦ well
+    ],
+  )
 
-  by_not-gives : (k : Option PieceKind) (l : Left) → Gives IsWellFormed (read (negation_by noise inside k) l)
-  by_not-gives (Some kind.Not) l = then-gives IsWellFormed IsWellFormed (read (inside opener.Not) l) _ (inner opener.Not l) (λ t m well. well-not t well)
-  by_not-gives _ l = near-gives l
+  by_not-yields : (k : Option PieceKind) → Yields (negation_by noise inside k) Well
+  by_not-yields (Some kind.Not) = (Well, inner opener.Not, λ tree well. well-not tree well)
+  by_not-yields _ = near-yields
 
-  negation-gives : (l : Left) → Gives IsWellFormed (read (negation noise inside) l)
+  negation-yields : Yields (negation noise inside) Well
   unfolding negation
-  negation-gives l = by_not-gives (ahead l) l
+  negation-yields = λ l. by_not-yields (ahead l)
 
-  all-gives : (l : Left) → Gives IsWellFormed (read (all noise inside) l)
+  all-yields : Yields (all noise inside) Well
   unfolding all
-  all-gives l =
-      then-gives IsWellFormed IsWellFormed (read (negation noise inside) l) _ (negation-gives l)
-      (λ first m well. then-gives (AllByRecursion IsWellFormed) IsWellFormed (repeated sign.And (λ n. read (negation noise inside) n) m) _
-      (turns-give sign.And IsWellFormed (λ n. read (negation noise inside) n) negation-gives (length m.pieces) m) (λ others n rest. well-and first others well rest))
+  all-yields = (Well, negation-yields, λ first well. (Well, negation-yields, λ others rest. well-and first others well rest))
 
-  query-gives : (l : Left) → Gives IsWellFormed (read (query noise inside) l)
+  query-yields : Yields (query noise inside) Well
   unfolding query
-  query-gives l =
-      then-gives IsWellFormed IsWellFormed (read (all noise inside) l) _ (all-gives l)
-      (λ first m well. then-gives (AllByRecursion IsWellFormed) IsWellFormed (repeated sign.Or (λ n. read (all noise inside) n) m) _
-      (turns-give sign.Or IsWellFormed (λ n. read (all noise inside) n) all-gives (length m.pieces) m) (λ others n rest. well-or first others well rest))
+  query-yields = (Well, all-yields, λ first well. (Well, all-yields, λ others rest. well-or first others well rest))
 
-opened-gives : (noise : List (List ℕ)) (room : ℕ) (by : Opener) (l : Left) → Gives IsWellFormed (read (opened noise room by) l)
+opened-yields : (noise : List (List ℕ)) (room : ℕ) (by : Opener) → Yields (opened noise room by) Well
 unfolding opened
-opened-gives noise zero by l = refl
-opened-gives noise (suc room) opener.Parenthesis l = query-gives noise (opened noise room) (opened-gives noise room) (next l)
-opened-gives noise (suc room) opener.Not l = negation-gives noise (opened noise room) (opened-gives noise room) (next l)
+opened-yields noise zero by = λ l. refl
+opened-yields noise (suc room) opener.Parenthesis = query-yields noise (opened noise room) (opened-yields noise room)
+opened-yields noise (suc room) opener.Not = negation-yields noise (opened noise room) (opened-yields noise room)
 
-end-gives : (t : Restriction) → IsWellFormed t → (k : Option PieceKind) (l : Left) → Gives IsWellFormed (read (end_by t k) l)
-end-gives t well None l = well
-end-gives t well (Some next) l = refl
+end-yields : (tree : Restriction) → IsWellFormed tree → (k : Option PieceKind) → Yields (end_by tree k) Well
+end-yields tree well None = well
+end-yields tree well (Some next) = λ l. refl
 
-pub whole-gives : (noise : List (List ℕ)) (l : Left) → Gives IsWellFormed (read (whole noise) l)
+pub whole-yields : (noise : List (List ℕ)) → Keeps IsMet (whole noise) Well
 unfolding whole
-whole-gives noise l =
-    then-gives IsWellFormed IsWellFormed (read (query noise (opened noise 64)) l) _ (query-gives noise (opened noise 64) (opened-gives noise 64) l) (λ t m well. end-gives t well (ahead m) m)
+whole-yields noise = (Well, query-yields noise (opened noise 64) (opened-yields noise 64), λ tree well l. end-yields tree well (ahead l))

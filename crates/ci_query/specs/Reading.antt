@@ -1,5 +1,5 @@
 -- How rules are read: what a function of the reader ensures.
-use Rattle.std.specs.Prelude.{◌≡◌, ◌≢◌, ℕ, zero, suc, Bool, List, [], ◌∷◌, length, Result, Ok, Err, if◌then◌else◌}
+use Rattle.std.specs.Prelude.{◌≡◌, ◌≢◌, ℕ, zero, suc, List, [], ◌∷◌, length, Result, Ok, Err, if◌then◌else◌}
 use Rattle.std.specs.Global.{Vec}
 use Rattle.ci_dialect.specs.declared.fault.QueryFault.{QueryFault}
 use Rattle.ci_dialect.specs.declared.fault.QueryFault.TheVariants.{OutOfMemory}
@@ -23,16 +23,11 @@ r >>= f = λ l. and_then (r l) f
 abbrev pub pure : {A : Type 0} → A → Reader A
 pure a = λ l. Ok (a, l)
 
--- this sign, if it comes next
-abbrev pub eat : Sign → Reader Bool
-eat s = λ l. Ok (sees s l, if sees s l then next l else l)
-
 -- { sign rule }. Each turn takes a piece, so no more turns come than there are pieces.
 abbrev pub turns : {A : Type 0} → Sign → Reader A → ℕ → Reader (List A)
 turns s rule zero = pure []
-turns s rule (suc n) = do
-  more ← eat s
-  if more then (do found ← rule; others ← turns s rule n; pure (found ∷ others)) else pure []
+turns s rule (suc n) = λ l.
+    if sees s l then (rule >>= (λ found. turns s rule n >>= (λ others. pure (found ∷ others)))) (next l) else Ok ([], l)
 
 abbrev pub repeated : {A : Type 0} → Sign → Reader A → Reader (List A)
 repeated s rule = λ l. turns s rule (length l.pieces) l
@@ -61,7 +56,13 @@ abbrev pub Gives : {A : Type 0} → Result A QueryFault → Result A QueryFault 
 Gives expected (Ok a) = expected ≡ Ok a
 Gives expected (Err fault) = fault ≢ OutOfMemory → expected ≡ Err fault
 
--- the same of a list
-abbrev pub ReadsList : {A : Type 0} → Outcome (List A) → Result (Vec A) QueryFault → Left → Type 0
-ReadsList outcome (Ok found) new = outcome ≡ Ok (found.items, new)
-ReadsList outcome (Err fault) new = fault ≢ OutOfMemory → outcome ≡ Err fault
+-- the trees that a repetition reads stand behind a first one
+pub record Follows (first : Restriction) (outcome : Outcome (List Restriction)) (list : List Restriction) (new : Left) : Type 0 where
+  pub others : List Restriction
+  pub all : list ≡ first ∷ others
+  pub reads : outcome ≡ Ok (others, new)
+
+-- the same of a repetition behind a first tree
+abbrev pub ReadsList : Restriction → Outcome (List Restriction) → Result (Vec Restriction) QueryFault → Left → Type 0
+ReadsList first outcome (Ok list) new = Follows first outcome list.items new
+ReadsList first outcome (Err fault) new = fault ≢ OutOfMemory → outcome ≡ Err fault

@@ -1,10 +1,12 @@
--- What the functions that read items ensure.
+-- What the functions that read items and join operands ensure.
 use Rattle.std.specs.Prelude.{◌≡◌, ◌≤◌, ℕ, ◌+◌, List, [], ◌∷◌, ◌++◌, length, Option, Some, None}
 use Rattle.ci_pieces.specs.Cut.{Cut}
 use Rattle.ci_dialect.specs.declared.fault.QueryFault.{QueryFault}
 use Rattle.ci_dialect.specs.declared.fault.QueryFault.TheVariants.{TooLong}
+use Rattle.ci_dialect.specs.declared.restriction.Restriction.{Restriction}
 use Rattle.ci_dialect.specs.declared.slots.Slot.{Slot}
 use Rattle.ci_dialect.specs.declared.slots.Slot.TheVariants.{Word, Open}
+use Rattle.ci_dialect.specs.Joined.{joined}
 use Rattle.ci_dialect.specs.Step.{most_words, too_long}
 use Rattle.ci_dialect.specs.Words.{words_of}
 
@@ -23,3 +25,8 @@ pub record HasRead (read : ℕ) (items : List Cut) (read_words : List (List ℕ)
 abbrev pub IsTooLong : Option ℕ → QueryFault → Type 0
 IsTooLong (Some at) fault = fault ≡ TooLong at
 IsTooLong None fault = ⊥
+
+-- one operand stands for itself; more are joined
+abbrev pub joined_list : (List Restriction → Restriction) → List Restriction → Restriction
+joined_list join [] = join []
+joined_list join (first ∷ others) = joined join first others

@@ -1,25 +1,27 @@
 //! The rules that hold other rules take the reader of what stands behind an opening sign as a
 //! parameter, so that each is proved by itself.
 
-ghost use Rattle.std.specs.Prelude.{◌≡◌};
+ghost use Rattle.std.specs.Prelude.{◌≡◌, ◌∷◌};
 ghost use Rattle.ci_dialect.specs.Grammar as spec;
 ghost use Rattle.ci_dialect.specs.Joined as terms;
-ghost use Rattle.ci_query.specs.Reading.{Reads, ReadsList, read, repeated};
+ghost use Rattle.ci_dialect.specs.Rule.{Expect, Give, Repeat};
+ghost use Rattle.ci_query.specs.Reading.{Reads, read};
 ghost use Rattle.ci_query.specs.Opens.{Opens};
-ghost use Rattle.ci_dialect.specs.declared.sign.Sign.TheVariants as sign;
 
-use crate::operands::{all_of, any_of, operands};
+use crate::operands::{all_of, any_of};
 use crate::reader::Reader;
+use crate::repetition::read_list;
 use crate::term::{pattern_term, property_term, words};
 use crate::{QueryFault, Restriction};
 use ci_base::PropNo;
 use ci_dialect::{Opener, Sign};
 use ci_pieces::PieceKind;
 use ci_words::NoiseList;
-use sqlite_items::Boxed;
+use sqlite_items::{Boxed, Items};
 use std::alloc::Global;
+use std::marker::Brand;
 
-#[derive(Clone, Copy)]
+#[derive(Drop)]
 pub struct Grammar<'n, F> {
     pub alloc: Global,
     pub noise: &'n NoiseList,
@@ -46,23 +48,8 @@ impl<
             (spec.opened self.now.noise.now self.now.depth)) reader.old) result reader.new }
     {
         let first = self.all(reader)?;
-        let others = self.other_alls(reader)?;
-        Ok(any_of(first, others)?)
-    }
-
-    fn other_alls(&self, reader: &mut Reader<'_, '_>) -> Result<Vec<Restriction>, QueryFault>
-        requires { Opens self.now.depth (F.pre self.now.opened) (F.post self.now.opened) }
-        ensures { ReadsList (repeated sign.Or (read (spec.all self.now.noise.now
-            (spec.opened self.now.noise.now self.now.depth))) reader.old) result reader.new }
-    {
-        let mut others = Vec::new(self.alloc);
-        for _turn in 0..reader.left() {
-            if !reader.eat(Sign::Or) {
-                return Ok(others);
-            }
-            others.push(self.all(reader)?)?;
-        }
-        Ok(others)
+        let all = read_list::<Brand, _>(self.alloc, reader, Sign::Or, first, |it| self.all(it))?;
+        Ok(any_of(all))
     }
 
     /// not { "&" not }
@@ -73,23 +60,10 @@ impl<
             (spec.opened self.now.noise.now self.now.depth)) reader.old) result reader.new }
     {
         let first = self.negation(reader)?;
-        let others = self.other_negations(reader)?;
-        Ok(all_of(first, others)?)
-    }
-
-    fn other_negations(&self, reader: &mut Reader<'_, '_>) -> Result<Vec<Restriction>, QueryFault>
-        requires { Opens self.now.depth (F.pre self.now.opened) (F.post self.now.opened) }
-        ensures { ReadsList (repeated sign.And (read (spec.negation self.now.noise.now
-            (spec.opened self.now.noise.now self.now.depth))) reader.old) result reader.new }
-    {
-        let mut others = Vec::new(self.alloc);
-        for _turn in 0..reader.left() {
-            if !reader.eat(Sign::And) {
-                return Ok(others);
-            }
-            others.push(self.negation(reader)?)?;
-        }
-        Ok(others)
+        let all = read_list::<Brand, _>(self.alloc, reader, Sign::And, first, |it| {
+            self.negation(it)
+        })?;
+        Ok(all_of(all))
     }
 
     /// "!" not | near
@@ -109,7 +83,7 @@ impl<
     }
 
     /// prime { "~" prime }
-    #[tactic(auto, unfolding(ci_dialect::specs::Grammar::near))]
+    #[tactic(auto, unfolding(ci_dialect::specs::Grammar::near, ci_dialect::specs::Grammar::near_others))]
     fn near(&self, reader: &mut Reader<'_, '_>) -> Result<Restriction, QueryFault>
         requires { Opens self.now.depth (F.pre self.now.opened) (F.post self.now.opened) }
         ensures { Reads (read (spec.near self.now.noise.now
@@ -117,52 +91,33 @@ impl<
     {
         let at = reader.place();
         let first = self.prime(reader)?;
-        if reader.sees(Sign::Near) {
-            self.near_others(reader, at, first)
-        } else {
-            Ok(first)
+        if !reader.sees(Sign::Near) {
+            return Ok(first);
+        }
+        match property_in(&first) {
+            Some(property) => self.near_terms(reader, property, first),
+            None => instead(first, QueryFault::Bad { at }),
         }
     }
 
     // The first operand of `~` has to be words or a phrase, and the others of its property.
-    #[tactic(auto, unfolding(ci_dialect::specs::Grammar::near_others))]
-    fn near_others(
-        &self,
-        reader: &mut Reader<'_, '_>,
-        at: u64,
-        first: Restriction,
-    ) -> Result<Restriction, QueryFault>
-        requires { Opens self.now.depth (F.pre self.now.opened) (F.post self.now.opened) }
-        ensures { Reads (read (spec.near_others self.now.noise.now
-            (spec.opened self.now.noise.now self.now.depth) at first) reader.old)
-            result reader.new }
-    {
-        let Some(property) = property_in(&first) else {
-            return Err(QueryFault::Bad { at });
-        };
-        let others = self.near_operands(reader, property)?;
-        let terms = operands(first, others)?;
-        Ok(Restriction::Proximity { property, terms })
-    }
-
-    fn near_operands(
+    fn near_terms(
         &self,
         reader: &mut Reader<'_, '_>,
         property: PropNo,
-    ) -> Result<Vec<Restriction>, QueryFault>
+        first: Restriction,
+    ) -> Result<Restriction, QueryFault>
         requires { Opens self.now.depth (F.pre self.now.opened) (F.post self.now.opened) }
-        ensures { ReadsList (repeated sign.Near (read (spec.near_operand self.now.noise.now
-            (spec.opened self.now.noise.now self.now.depth) property)) reader.old)
+        ensures { Reads (read (Repeat Sign.Near (spec.near_operand self.now.noise.now
+            (spec.opened self.now.noise.now self.now.depth) property)
+            (λ others. Give (Restriction.Proximity property (first ∷ others)))) reader.old)
             result reader.new }
     {
-        let mut others = Vec::new(self.alloc);
-        for _turn in 0..reader.left() {
-            if !reader.eat(Sign::Near) {
-                return Ok(others);
-            }
-            others.push(self.near_operand(reader, property)?)?;
-        }
-        Ok(others)
+        let terms = read_list::<Brand, _>(self.alloc, reader, Sign::Near, first, |it| {
+            self.near_operand(it, property)
+        })?;
+        let terms = Items::from_vec(terms);
+        Ok(Restriction::Proximity { property, terms })
     }
 
     #[tactic(auto, unfolding(ci_dialect::specs::Grammar::near_operand))]
@@ -191,11 +146,9 @@ impl<
         match reader.peek() {
             Some(PieceKind::Open) => {
                 let inner = self.opened(reader, Opener::Parenthesis)?;
-                reader.expect(Sign::Close)?;
-                Ok(inner)
+                closed(reader, inner)
             }
-            Some(PieceKind::Run) => words(self.alloc, self.noise, reader),
-            Some(PieceKind::Quoted) => words(self.alloc, self.noise, reader),
+            Some(PieceKind::Run | PieceKind::Quoted) => words(self.alloc, self.noise, reader),
             Some(PieceKind::Property) => property_term(self.alloc, self.noise, reader),
             Some(PieceKind::Pattern) => pattern_term(self.alloc, reader),
             _ => Err(reader.refuse()),
@@ -219,13 +172,7 @@ fn property_in(term: &Restriction) -> Option<PropNo>
     match term {
         Restriction::Content { property, .. } => Some(*property),
         Restriction::Phrase { property, .. } => Some(*property),
-        Restriction::Proximity { .. } => None,
-        Restriction::Property { .. } => None,
-        Restriction::Pattern { .. } => None,
-        Restriction::Scope(_) => None,
-        Restriction::And(_) => None,
-        Restriction::Or(_) => None,
-        Restriction::Not(_) => None,
+        _ => None,
     }
 }
 
@@ -234,6 +181,23 @@ fn same_property(property: PropNo, at: u64, term: Restriction) -> Result<Restric
 {
     match property_in(&term) {
         Some(other) if other.0 == property.0 => Ok(term),
-        _ => Err(QueryFault::Bad { at }),
+        _ => instead(term, QueryFault::Bad { at }),
     }
+}
+
+// What stands in parentheses, if they end here.
+fn closed(reader: &mut Reader<'_, '_>, inner: Restriction) -> Result<Restriction, QueryFault>
+    ensures { Reads (read (Expect Sign.Close (Give inner)) reader.old) result reader.new }
+{
+    match reader.expect(Sign::Close) {
+        Ok(()) => Ok(inner),
+        Err(fault) => instead(inner, fault),
+    }
+}
+
+/// A fault instead of a tree, which is let go here.
+pub fn instead(_tree: Restriction, fault: QueryFault) -> Result<Restriction, QueryFault>
+    ensures { result ≡ Err fault }
+{
+    Err(fault)
 }

@@ -8,6 +8,7 @@ mod operands;
 mod parsing;
 mod phrase;
 mod reader;
+mod repetition;
 mod term;
 mod value;
 

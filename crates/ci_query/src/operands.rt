@@ -1,37 +1,25 @@
-ghost use Rattle.std.specs.Prelude.{◌≡◌, ◌∷◌, IfOk};
-ghost use Rattle.ci_dialect.specs.Joined as spec;
+ghost use Rattle.std.specs.Prelude.{◌≡◌};
+ghost use Rattle.ci_query.specs.Words.{joined_list};
 
 use crate::Restriction;
 use sqlite_items::Items;
-use std::alloc::AllocError;
-
-/// The first operand and the others, in order.
-pub fn operands(
-    first: Restriction,
-    mut others: Vec<Restriction>,
-) -> Result<Items<Restriction>, AllocError>
-    ensures { IfOk result (λ all. all ≡ first ∷ others.items) }
-{
-    others.insert(0, first)?;
-    Ok(Items::from_vec(others))
-}
 
 /// One operand by itself, or all of them.
-pub fn all_of(first: Restriction, others: Vec<Restriction>) -> Result<Restriction, AllocError>
-    ensures { IfOk result (λ whole. whole ≡ spec.joined Restriction.And first others.items) }
+pub fn all_of(mut list: Vec<Restriction>) -> Restriction
+    ensures { result ≡ joined_list Restriction.And list.items }
 {
-    if others.is_empty() {
-        return Ok(first);
+    if list.len() == 1 {
+        return list.remove(0);
     }
-    Ok(Restriction::And(operands(first, others)?))
+    Restriction::And(Items::from_vec(list))
 }
 
 /// One operand by itself, or any of them.
-pub fn any_of(first: Restriction, others: Vec<Restriction>) -> Result<Restriction, AllocError>
-    ensures { IfOk result (λ whole. whole ≡ spec.joined Restriction.Or first others.items) }
+pub fn any_of(mut list: Vec<Restriction>) -> Restriction
+    ensures { result ≡ joined_list Restriction.Or list.items }
 {
-    if others.is_empty() {
-        return Ok(first);
+    if list.len() == 1 {
+        return list.remove(0);
     }
-    Ok(Restriction::Or(operands(first, others)?))
+    Restriction::Or(Items::from_vec(list))
 }

@@ -7,7 +7,7 @@ ghost use Rattle.ci_dialect.specs.WellFormed.{IsWellFormed};
 ghost use Rattle.ci_dialect.specs.declared.fault.QueryFault.{QueryFault as Fault};
 ghost use Rattle.ci_dialect.specs.declared.restriction.Restriction.{Restriction as Node};
 
-use crate::grammar::Grammar;
+use crate::grammar::{Grammar, instead};
 use crate::reader::Reader;
 use crate::{QueryFault, Restriction};
 use ci_dialect::Opener;
@@ -55,7 +55,7 @@ fn whole(
     let tree = grammar.query(reader)?;
     match reader.peek() {
         None => Ok(tree),
-        Some(_) => Err(reader.refuse()),
+        Some(_) => instead(tree, reader.refuse()),
     }
 }
 

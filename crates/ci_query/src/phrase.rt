@@ -103,8 +103,7 @@ fn phrase(property: PropNo, at: u64, mut list: Vec<Slot>) -> Result<Restriction,
             word,
             prefix: false,
         }),
-        Some(Slot::Open) => Err(QueryFault::OnlyNoise { at }),
-        None => Err(QueryFault::OnlyNoise { at }),
+        Some(Slot::Open) | None => Err(QueryFault::OnlyNoise { at }),
     }
 }
 

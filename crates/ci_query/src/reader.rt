@@ -1,7 +1,6 @@
-ghost use Rattle.std.specs.Prelude.{◌≡◌, ◌≢◌, IfOk, IfErr, OnOk, length};
+ghost use Rattle.std.specs.Prelude.{◌≡◌, ◌≢◌, IfOk, IfErr, OnOk, length, if◌then◌else◌};
 ghost use Rattle.ci_dialect.specs.Left as left;
 ghost use Rattle.ci_dialect.specs.Step as spec;
-ghost use Rattle.ci_query.specs.Reading.{eat};
 ghost use Rattle.ci_dialect.specs.Words.{words_of as read_words};
 
 use crate::QueryFault;
@@ -110,7 +109,8 @@ impl<'a, 't> Reader<'a, 't> {
 
     /// Takes the sign, if it comes next.
     pub fn eat(&mut self, sign: Sign) -> bool
-        ensures { eat sign self.old ≡ Ok (result, self.new) }
+        ensures found { result ≡ spec.sees sign self.old }
+        ensures left { self.new ≡ (if result then left.next self.old else self.old) }
     {
         let found = self.sees(sign);
         if found {
@@ -150,8 +150,7 @@ impl<'a, 't> Reader<'a, 't> {
         ensures err { IfErr result (λ fault. spec.value self.old ≡ Err fault) }
     {
         match self.peek() {
-            Some(PieceKind::Quoted) => self.take(),
-            Some(PieceKind::Bare) => self.take(),
+            Some(PieceKind::Quoted | PieceKind::Bare) => self.take(),
             _ => Err(self.refuse()),
         }
     }

@@ -37,8 +37,7 @@ pub fn property_term(
 {
     let name = reader.take()?;
     match reader.peek() {
-        Some(PieceKind::Run) => named_words(alloc, noise, reader, name),
-        Some(PieceKind::Quoted) => named_words(alloc, noise, reader, name),
+        Some(PieceKind::Run | PieceKind::Quoted) => named_words(alloc, noise, reader, name),
         Some(PieceKind::Relates(relation)) => {
             reader.step();
             let given = reader.value()?;

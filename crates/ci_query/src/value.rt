@@ -27,8 +27,7 @@ pub fn worded(name: &Piece<'_>) -> Result<PropNo, QueryFault>
     match known(name.text()) {
         None => Err(QueryFault::UnknownProperty { at }),
         Some((property, kind)) => match kind {
-            Kind::Words => Ok(property),
-            Kind::Str => Ok(property),
+            Kind::Words | Kind::Str => Ok(property),
             Kind::Int => Err(QueryFault::WrongKind { at }),
         },
     }
@@ -94,8 +93,7 @@ pub fn patterned(
     match known(name.text()) {
         None => Err(QueryFault::UnknownProperty { at }),
         Some((property, kind)) => match kind {
-            Kind::Words => Err(QueryFault::WrongKind { at }),
-            Kind::Int => Err(QueryFault::WrongKind { at }),
+            Kind::Words | Kind::Int => Err(QueryFault::WrongKind { at }),
             Kind::Str => Ok(Restriction::Pattern {
                 property,
                 pattern: Text::of(alloc, given.text())?,

@@ -1,8 +1,5 @@
 //! Documents of several pieces: words of one phrase on either side of a break, and values.
 
-ghost use Rattle.std.specs.Prelude.{◌≡◌, ◌+◌, ◌≤◌, IfOk, length};
-ghost use Rattle.ci_entry.specs.Entry.{text_bytes};
-
 use crate::table::{Table, unmet};
 use ci_base::{PathText, PropNo, Text, Value};
 use ci_chunk::{Break, ChunkState, Piece, StatChunk, Transcript};
@@ -34,10 +31,7 @@ fn with_text(
     break_type: Break,
     property: u16,
     text: Text,
-) -> Result<Transcript, Fail>
-    ensures count { IfOk result (λ t. length t ≡ length list + 1) }
-    ensures bytes { IfOk result (λ t. text_bytes t ≡ text_bytes list + length text) }
-{
+) -> Result<Transcript, Fail> {
     let mut list = list;
     list.add(Piece::Words {
         chunk: chunk(break_type, ChunkState::Text, property),
@@ -47,10 +41,7 @@ fn with_text(
 }
 
 // Whether a document of these pieces satisfies a query.
-fn holds(alloc: Global, read: &Transcript, query: &str) -> Result<bool, Fail>
-    requires pieces { length read.now ≤ 65536 }
-    requires bytes { text_bytes read.now ≤ 1048576 }
-{
+fn holds(alloc: Global, read: &Transcript, query: &str) -> Result<bool, Fail> {
     let noise = NoiseList::standard(alloc)?;
     let entry = entry_of(alloc, read, &noise)?;
     is_held(alloc, &parse(alloc, query, &noise)?, &entry)
@@ -62,10 +53,7 @@ fn is_held(alloc: Global, restriction: &Restriction, entry: &Entry) -> Result<bo
 }
 
 // Two texts of one property.
-fn broken(alloc: Global, break_type: Break, property: u16) -> Result<Transcript, Fail>
-    ensures count { IfOk result (λ t. length t ≡ 2) }
-    ensures bytes { IfOk result (λ t. text_bytes t ≡ 7) }
-{
+fn broken(alloc: Global, break_type: Break, property: u16) -> Result<Transcript, Fail> {
     let (fire, fox) = (Text::of(alloc, "fire")?, Text::of(alloc, "fox")?);
     let read = with_text(Transcript::new(alloc), Break::Eop, property, fire)?;
     with_text(read, break_type, property, fox)
@@ -128,10 +116,7 @@ Eow 5 @DocAuthor fire => false";
 }
 
 // A document that was last written then.
-fn written(alloc: Global, time: i64) -> Result<Transcript, Fail>
-    ensures count { IfOk result (λ t. length t ≡ 1) }
-    ensures bytes { IfOk result (λ t. text_bytes t ≡ 0) }
-{
+fn written(alloc: Global, time: i64) -> Result<Transcript, Fail> {
     let mut read = Transcript::new(alloc);
     read.add(Piece::Held {
         chunk: chunk(Break::Eop, ChunkState::Value, 4),

@@ -1,7 +1,5 @@
 //! Documents and the queries that they satisfy.
 
-ghost use Rattle.std.specs.Prelude.{◌≤◌, length};
-
 use crate::table::{Table, unmet};
 use ci_base::{PathText, PropNo, Text};
 use ci_chunk::Transcript;
@@ -20,18 +18,13 @@ fn is_satisfied(
     path: &str,
     text: &str,
 ) -> Result<bool, Fail> {
-    if text.len() > 65_536 {
-        return Err("a short text".into());
-    }
     let path = PathText::read(alloc, path.as_bytes())?;
     let entry = plain_entry(alloc, &path, text)?;
     Ok(satisfies(alloc, restriction, &path, &entry)?)
 }
 
 // The entry of a plain text.
-fn plain_entry(alloc: Global, path: &PathText, text: &str) -> Result<Entry, Fail>
-    requires { length text.now ≤ 65536 }
-{
+fn plain_entry(alloc: Global, path: &PathText, text: &str) -> Result<Entry, Fail> {
     let transcript = Transcript::plain(alloc, path, text)?;
     let noise = NoiseList::standard(alloc)?;
     Ok(entry_of(alloc, &transcript, &noise)?)

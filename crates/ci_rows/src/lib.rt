@@ -6,6 +6,8 @@ mod catalogue;
 #[cfg(test)]
 mod dialect;
 #[cfg(test)]
+mod endless;
+#[cfg(test)]
 mod ends;
 #[cfg(test)]
 mod large;

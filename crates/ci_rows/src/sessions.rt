@@ -14,9 +14,14 @@ use ci_words::NoiseList;
 use std::alloc::Global;
 use std::test::Fail;
 
-// How a session ended, how many events it had, and behind a colon what it printed, a bar for a line
-// feed.
-fn told(alloc: Global, status: Status, events: usize, printed: &[u8]) -> Result<String, Fail> {
+/// How a session ended, how many events it had, and behind a colon what it printed, a bar for a
+/// line feed.
+pub(crate) fn told(
+    alloc: Global,
+    status: Status,
+    events: usize,
+    printed: &[u8],
+) -> Result<String, Fail> {
     let mut told = format!(in alloc; "{status:?} {events}: ")?;
     for byte in printed {
         told.push(if *byte == b'\n' {
@@ -53,7 +58,8 @@ fn source(alloc: Global, given: &str) -> Result<SureMemorySource, Fail> {
     Ok(SureMemorySource::new(alloc, lines(alloc, given)?))
 }
 
-fn sink(alloc: Global) -> Result<SureMemorySink, Fail> {
+/// A sink with room for what is printed.
+pub(crate) fn sink(alloc: Global) -> Result<SureMemorySink, Fail> {
     Ok(SureMemorySink::new(alloc, 4096, 65_536)?)
 }
 

@@ -74,8 +74,8 @@ course fixed first now core status = record {
 }
 
 pub IsTold-ends : (first : Reading) (start : Core) (now : Reading) (core : Core) (fixed : Fixed) (status : Status) → HasFixed fixed start → Ends first start now core status → Run core.terms core.sheet.events
-    → journal_bytes core.sheet.events ≤ core.sheet.limit → IsTold (course fixed first now core status)
-IsTold-ends first start now core fixed status has ends run within =
+    → journal_bytes core.sheet.events ≤ core.sheet.limit → length now.held ≤ 65537 → IsTold (course fixed first now core status)
+IsTold-ends first start now core fixed status has ends run within short =
     let at = λ (s : Status) (is : status ≡ s). subst (Ends first start now core) is ends in
     let all = fits first start now core fixed has status ends in
     record {
@@ -86,7 +86,7 @@ IsTold-ends first start now core fixed status has ends run within =
       all_lines = λ is. all_lines first start now core (at Done is);
       done = λ is. done first start now core (at Done is);
       ends_at_quit = ends_at_quit first start now core status ends;
-      left_at_quit = λ is. left_at_quit first start now core (at Done is);
+      left_at_quit = λ is. left_at_quit first start now core short (at Done is);
       taken_at_fault = λ is. taken_at_fault first start now core (at ReadFault is);
       taken_at_long = λ is. taken_at_long first start now core (at EndlessLine is);
       all_printed = λ other. (all_printed first start now core fixed has status ends other).written;

@@ -5,8 +5,6 @@ use Rattle.ci_base.specs.declared.numbers.Seq.{Seq}
 use Rattle.ci_change.specs.declared.notice.What.{What}
 use Rattle.ci_change.specs.declared.notice.What.TheVariants.{Changed}
 use Rattle.ci_chunk.specs.Plain.{plain}
-use Rattle.ci_entry.specs.Entry.{text_bytes}
-use Rattle.ci_io.specs.declared.line.TheConstants.{LINE_BYTES}
 use Rattle.ci_journal.specs.declared.event.Event.{Event}
 use Rattle.ci_journal.specs.declared.event.Happened.TheVariants.{Put, Said}
 use Rattle.ci_journal.specs.declared.reply.Reply.{Reply}
@@ -73,7 +71,3 @@ module _ (old a : Core) (path text : List ℕ) (seq : Seq) (next : seq.0 ≡ nex
       let e = event 0 (Put path seq (plain path text)) in
       IsAt-step old a b (noted 0 path seq.0 Changed ∷ []) e at
       (step-filed a b e at.sound makes unrefused keeps refl (record { path = path; seq = seq; fate = Filtered (plain path text) }) path seq refl refl (omega (arith, low-noted old a path seq Changed next at)))
-
--- a line's text makes a small transcript
-pub plain-small : (path text : List ℕ) → length text ≤ LINE_BYTES → text_bytes (plain path text) ≤ 1048576
-plain-small path text short = omega (arith, short)

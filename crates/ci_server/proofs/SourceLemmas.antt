@@ -1,5 +1,5 @@
 -- What the end of a session says of its source.
-use Rattle.std.proofs.Common.{◌≡◌, ◌∙◌, ℕ, Bool, true, false, List, [], ◌++◌, ◌⊎◌, Option, Some, None, flat_map, inl, inr, ⊎_elim, refl, ap, sym, subst, append-nil, append_assoc}
+use Rattle.std.proofs.Common.{◌≡◌, ◌≤◌, ◌∙◌, ℕ, Bool, true, false, List, [], ◌++◌, ◌⊎◌, Option, Some, None, flat_map, length, inl, inr, ⊎_elim, refl, ap, sym, subst, append-nil, append_assoc}
 use Rattle.std.specs.Io.KnownBytes.{Consumes, IsAtEnd, prepend_known}
 use Rattle.ci_io.specs.Causes.{Rose}
 use Rattle.ci_io.specs.Lines.{HasNoFeed}
@@ -40,10 +40,11 @@ takes_fed all held left served journal asks feeds = record {
   asked_are = asks ∙ feeds.requests_are;
 }
 
-AsksBefore-fed : (all : Option (List ℕ)) (held : List ℕ) (left : Option (List ℕ)) (served : List Request) (journal : List Event) → requests_in journal ≡ served → Feeds all (prepend_known held left) served → AsksBefore all left journal
-AsksBefore-fed None held left served journal asks feeds = tt
-AsksBefore-fed (Some all) held None served journal asks feeds = absurd feeds
-AsksBefore-fed (Some all) held (Some left) served journal asks feeds = takes_fed all held left served journal asks feeds
+AsksBefore-fed : (all : Option (List ℕ)) (held : List ℕ) (left : Option (List ℕ)) (served : List Request) (journal : List Event) → length held ≤ 65537 → requests_in journal ≡ served → Feeds all (prepend_known held left) served → AsksBefore all left journal
+unfolding takes_fed
+AsksBefore-fed None held left served journal short asks feeds = tt
+AsksBefore-fed (Some all) held None served journal short asks feeds = absurd feeds
+AsksBefore-fed (Some all) held (Some left) served journal short asks feeds = (takes_fed all held left served journal asks feeds, short)
 
 -- and where the beginning of one more line was lost
 AsksTaken-fed : (all before : Option (List ℕ)) (lost held : List ℕ) (left : Option (List ℕ)) (served : List Request) (journal : List Event) → requests_in journal ≡ served → Feeds all before served
@@ -96,14 +97,14 @@ module _ (first : Reading) (start : Core) (now : Reading) (core : Core) where
   ends_at_quit TooManyDocuments ends quits between = absurd between
   ends_at_quit OutOfMemory ends quits between = absurd between
 
-  pub left_at_quit : Ends first start now core Done → IsAtEnd now.left ⊎ AsksBefore (ahead first) now.left core.sheet.events
-  left_at_quit ends =
+  pub left_at_quit : length now.held ≤ 65537 → Ends first start now core Done → IsAtEnd now.left ⊎ AsksBefore (ahead first) now.left core.sheet.events
+  left_at_quit short ends =
       ⊎_elim (λ progress. by progress now.ended refl)
       (λ over. inl (IsAtEnd-held now.held now.left over.over.held_after over.over.ended_after)) ends
     where
       by : Progress first start now core true → (ended : Bool) → now.ended ≡ ended → IsAtEnd now.left ⊎ AsksBefore (ahead first) now.left core.sheet.events
       by progress true is = inl (progress.at_end refl is)
-      by progress false is = inr (AsksBefore-fed (ahead first) now.held now.left progress.served core.sheet.events (asked-turns start.terms core.sheet.events progress.served progress.turns) (progress.feeds is))
+      by progress false is = inr (AsksBefore-fed (ahead first) now.held now.left progress.served core.sheet.events short (asked-turns start.terms core.sheet.events progress.served progress.turns) (progress.feeds is))
 
   taken : (before : Reading) → EndsUnread first start before now core → AsksTaken (ahead first) now.left core.sheet.events
   taken before ends =

@@ -55,11 +55,12 @@ pub record TakesLines (all left : List ℕ) (journal : List Event) : Type 0 wher
   pub each : AllByRecursion HasNoFeed raws
   pub asked_are : requests_in journal ≡ map line_request raws
 
--- where the bytes are told: of these bytes the session used nothing
+-- where the bytes are told: of these bytes, which a reader's buffer holds, the session used nothing
 abbrev pub AsksBefore : Option (List ℕ) → Option (List ℕ) → List Event → Type 0
 AsksBefore None left journal = ⊤
 AsksBefore (Some all) None journal = ⊥
-AsksBefore (Some all) (Some left) journal = TakesLines all left journal
+AsksBefore (Some all) (Some left) journal =
+    (takes : TakesLines all left journal) × (length takes.begun ≤ 65537)
 
 -- where the bytes are told: these bytes are the beginning of one more line, or none
 abbrev pub AsksTaken : Option (List ℕ) → Option (List ℕ) → List Event → Type 0

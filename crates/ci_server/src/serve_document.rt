@@ -1,10 +1,11 @@
-ghost use Rattle.std.specs.Prelude.{◌≡◌, ◌≤◌, length, OnOk, IfErr};
+ghost use Rattle.std.specs.Prelude.{◌≡◌, ◌≤◌, length, IfOk, OnOk, IfErr};
+ghost use Rattle.ci_chunk.specs.Plain.{plain};
 ghost use Rattle.ci_io.specs.declared.line.TheConstants.{LINE_BYTES};
 ghost use Rattle.ci_server.specs.Served.{IsJustAsked, ServesSteps, StopsSteps};
 
 use crate::FOREGROUND;
-use ci_base::{PathText, Text};
-use ci_chunk::Transcript;
+use ci_base::{OutOfMemory, PathText, Text};
+use ci_chunk::{Transcript, TranscriptFault};
 use ci_core::{Catalog, CoreFault};
 use ci_io::Sink;
 use ci_journal::{Reply, Request, What};
@@ -59,8 +60,20 @@ pub fn serve_put<K: Sink + Drop>(
         (StopsSteps catalog.old catalog.new id (Request.Put path.now text.now)) }
 {
     let seq = catalog.note(FOREGROUND, path, What::Changed)?;
-    let transcript = Transcript::plain(alloc, path, text.as_str())?;
+    let transcript = transcript_of(alloc, path, text)?;
     catalog.put(FOREGROUND, path, seq, transcript)?;
     catalog.say(FOREGROUND, id, Reply::Ok)?;
     Ok(())
+}
+
+// What a filter says of the text. A line's text is never too long for a transcript.
+fn transcript_of(alloc: Global, path: &PathText, text: &Text) -> Result<Transcript, OutOfMemory>
+    requires { length text.now ≤ LINE_BYTES }
+    ensures { IfOk result (λ t. t ≡ plain path.now text.now) }
+{
+    match Transcript::plain(alloc, path, text.as_str()) {
+        Ok(transcript) => Ok(transcript),
+        Err(TranscriptFault::OutOfMemory) => Err(OutOfMemory),
+        Err(TranscriptFault::TooLong) => unreachable!(),
+    }
 }

@@ -49,7 +49,8 @@ pub fn run_steps<S: Source + Drop, K: Sink + Drop>(
         result.status ≡ Status.Done }
 
     // Where the session ended before the source, what was asked is of the lines whose feeds were
-    // taken, and what was taken besides asked for nothing.
+    // taken, and what was taken besides asked for nothing. Behind `quit` that is what a reader holds,
+    // at most 65,537 bytes.
     ensures left_at_quit { result.status ≡ Status.Done → IsAtEnd (S.left result.source)
         ⊎ AsksBefore (S.left source) (S.left result.source) result.journal.list }
     ensures taken_at_fault { result.status ≡ Status.ReadFault →

@@ -1,5 +1,5 @@
 -- What a write leaves of the parts of an image.
-use Rattle.std.proofs.Common.{◌≡◌, ◌⊎◌, inl, inr, ℕ, ◌+◌, ◌<◌, ◌≤◌, List, length, get_or, drop, slice_index, refl, sym, ◌∙◌, arith, length-take, length-drop, get_or-take, get_or-drop}
+use Rattle.std.proofs.Common.{◌≡◌, ◌⊎◌, inl, inr, ℕ, ◌+◌, ◌<◌, ◌≤◌, List, length, get_or, drop, slice_index, refl, sym, ◌∙◌, ap, arith, length-take, length-drop, get_or-take, get_or-drop}
 use Rattle.std.proofs.lemmas.List.{ext_get_or}
 use Rattle.ci_device.specs.Images.{Holds, Torn}
 use Rattle.ci_volume.specs.Layout.{part}
@@ -51,3 +51,27 @@ untouched at n bytes = record {
   below = λ i within before. refl;
   above = λ i within behind. refl;
 }
+
+-- what is held behind the range of a torn write stays
+pub holds_behind : (at n : ℕ) (old new : List ℕ) (place : ℕ) (bytes : List ℕ) → Torn at n old new → at + n ≤ place → Holds old place bytes → Holds new place bytes
+holds_behind at n old new place bytes torn behind holds = record {
+  within = omega (arith, holds.within, torn.no_shorter);
+  each = λ i below. byte_kept at n old new torn (place + i) (omega (arith, below, holds.within)) (inr (omega (arith, behind))) ∙ holds.each i below;
+}
+
+-- a part of what is held
+pub part_within : (image : List ℕ) (at : ℕ) (bytes : List ℕ) → Holds image at bytes → (from n : ℕ) → from + n ≤ length bytes → part image (at + from) n ≡ part bytes from n
+part_within image at bytes holds from n within =
+    let size : length (part image (at + from) n) ≡ n = length-part image (at + from) n (omega (arith, holds.within, within)) in
+    let wanted : length (part bytes from n) ≡ n = length-part bytes from n within in
+    ext_get_or 0 (part image (at + from) n) (part bytes from n) (size ∙ sym wanted) (λ i below. same i (omega (arith, below, size)))
+  where
+    place : (i : ℕ) → at + from + i ≡ at + (from + i)
+    place i = omega arith
+
+    same : (i : ℕ) → i < n → get_or (part image (at + from) n) i 0 ≡ get_or (part bytes from n) i 0
+    same i below =
+        part-at image (at + from) n i below
+        ∙ ap (λ j. get_or image j 0) (place i)
+        ∙ holds.each (from + i) (omega (arith, below, within))
+        ∙ sym (part-at bytes from n i below)

@@ -130,11 +130,17 @@ module _ (k j : ℕ) (k_le : k ≤ 1) (j_le : j ≤ 1) (apart : k ≢ j) where
           (λ older. let less : next.generation < slot.generation = subst (λ (s : Slot). s.generation < slot.generation) same_j (older.1) in omega (arith, less, later))
           (before.current.other j j_le (λ same. apart (sym same)))
 
+  -- the slot that was current is older then
+  pub older_beside : (slot next : Slot) (pages base old new : List ℕ) → Torn (gate_place j) 1 old new → Stands k slot pages base old
+      → slot.generation < next.generation → IsOlder k next.generation new
+  older_beside slot next pages base old new torn stands later = record {
+    within = longer (gate_place j) 1 old new (slot_place k + slot_size) torn stands.current.within;
+    lesser = subst (λ (s : Slot). s.generation < next.generation)
+        (sym (slot_kept (gate_place j) 1 old new k torn stands.current.within (gate_before k) ∙ stands.current.fields)) later;
+  }
+
   slots_apart : (slot_place k + slot_size ≤ slot_place j) ⊎ (slot_place j + slot_size ≤ slot_place k)
   slots_apart = ⊎_elim (λ less. inl (omega (arith, less))) (λ more. inr (omega (arith, more, apart))) (cases_lt k j)
-
-  slot_behind : (i : ℕ) → i ≤ 8 → (i ≤ slot_place j)
-  slot_behind i le = omega (arith, le)
 
   pub still_shut : (old new : List ℕ) → Torn (slot_place j) slot_size old new → 8 < length old → IsShut old j → IsShut new j
   still_shut old new torn long shut is_open =
@@ -190,6 +196,12 @@ module _ (before : List ℕ → Type 0) (at j : ℕ) (le : j ≤ 1) (image : Lis
   opened_from place slot next pages base each from is_open =
       let was = each from.0 from.1 in
       gate_opened (1 - j) j (beside_le j) le (beside_apart j le) slot next pages base from.0 image (gate_torn from place) was.stands was.within was.fields was.later is_open
+
+  pub older_from : at ≡ gate_place j → (slot next : Slot) (pages base : List ℕ) → EachLeft before (IsWritten j slot next pages base)
+      → IsTornFrom before at 1 image → IsOlder (1 - j) next.generation image
+  older_from place slot next pages base each from =
+      let was = each from.0 from.1 in
+      older_beside (1 - j) j (beside_le j) le (beside_apart j le) slot next pages base from.0 image (gate_torn from place) was.stands was.later
 
 module _ (before : List ℕ → Type 0) (at n j : ℕ) (size : n ≡ slot_size) (le : j ≤ 1) (image : List ℕ) where
   -- an image behind a write to a slot

@@ -41,6 +41,11 @@ pub record IsChain (image : List ℕ) (pages first n : ℕ) (chain : List ℕ) :
 abbrev pub chain_bytes : List ℕ → List ℕ → ℕ → List ℕ
 chain_bytes image chain n = take n (flat_map (content_of image) chain)
 
+-- the chain that begins at a page is these pages, and has these bytes
+pub record HoldsChain (image : List ℕ) (pages first : ℕ) (bytes chain : List ℕ) : Type 0 where
+  pub is_chain : IsChain image pages first (length bytes) chain
+  pub holds : chain_bytes image chain (length bytes) ≡ bytes
+
 -- these pages are whole in the image, and have what they have in another
 abbrev pub SamePages : List ℕ → List ℕ → List ℕ → Type 0
 SamePages pages base image = (page : ℕ) → Contains pages page →

@@ -1,6 +1,9 @@
+pub mod Accounts
 pub mod Chain
+pub mod Creation
 pub mod Found
 pub mod Layout
 pub mod Opening
+pub mod Runs
 pub mod Steps
 pub mod Volumes

@@ -1,9 +1,9 @@
 -- What a stop leaves while a volume goes from one generation to the next.
-use Rattle.std.specs.Prelude.{◌≡◌, ◌⊎◌, ℕ, ◌-◌, ◌<◌, ◌≤◌, Bool, true, false, List, length}
+use Rattle.std.specs.Prelude.{◌≡◌, ◌⊎◌, ℕ, ◌+◌, ◌-◌, ◌*◌, Contains, slice_index, ◌<◌, ◌≤◌, Bool, true, false, List, length}
 use Rattle.ci_device.specs.Images.{NoMore, Torn}
 use Rattle.ci_device.specs.Time.{LeavesOnly}
 use Rattle.ci_volume.specs.declared.slot.Slot.{Slot}
-use Rattle.ci_volume.specs.Layout.{HasSlot, IsCurrent, IsMarked, IsShut, slot_at}
+use Rattle.ci_volume.specs.Layout.{HasSlot, IsCurrent, IsMarked, IsShut, page_bytes, slot_at}
 use Rattle.ci_volume.specs.Chain.{SamePages}
 
 -- each image that a stop may leave has P
@@ -13,6 +13,19 @@ EachLeft images P = (image : List ℕ) → images image → P image
 -- a torn write of n bytes at a place made it of an image that a stop might leave before
 abbrev pub IsTornFrom : (List ℕ → Type 0) → ℕ → ℕ → List ℕ → Type 0
 IsTornFrom before at n image = (earlier : List ℕ) × before earlier × Torn at n earlier image
+
+-- a place in none of these pages
+abbrev pub IsOutside : List ℕ → ℕ → Type 0
+IsOutside pages i = (page : ℕ) → Contains pages page → (i < page_bytes * page) ⊎ (page_bytes * page + page_bytes ≤ i)
+
+-- only these pages may differ, and what lies past the old end
+pub record SparesOthers (pages old new : List ℕ) : Type 0 where
+  pub no_shorter : length old ≤ length new
+  pub same : (i : ℕ) → i < length old → IsOutside pages i → slice_index new i ≡ slice_index old i
+
+-- writes to these pages, cut short or not, made it of an image that a stop might leave before
+abbrev pub IsSparedFrom : (List ℕ → Type 0) → List ℕ → List ℕ → Type 0
+IsSparedFrom before pages image = (earlier : List ℕ) × before earlier × SparesOthers pages earlier image
 
 -- a generation stands in an image: its slot is current, and these pages have what they have in the base
 pub record Stands (which : ℕ) (slot : Slot) (pages base image : List ℕ) : Type 0 where

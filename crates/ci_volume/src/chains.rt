@@ -1,5 +1,6 @@
 ghost use Rattle.std.specs.Prelude.{◌≡◌, ◌↔◌, ◌+◌, ◌*◌, ◌<◌, ◌≤◌, ℕ, List, IfOk, IsErrOf, IsTrue, length};
 ghost use Rattle.ci_io.specs.Causes.{HasCause, Rose};
+ghost use Rattle.ci_pages.specs.Tables.{AllData};
 ghost use Rattle.ci_volume.specs.Chain.{IsChain, IsDataPage, next_of, pages_for};
 ghost use Rattle.ci_volume.specs.Steps.{Stays};
 ghost use Rattle.ci_volume.specs.declared.fault.VolumeFault.TheVariants.{DiskFault, NotACatalogue, VolumeFull};
@@ -22,8 +23,9 @@ pub(crate) struct Bounds {
 
 /// Whether a page may hold a chain and lies within the image.
 pub(crate) fn is_data_page(bounds: Bounds, page: u32) -> bool
-    ensures { (image : List ℕ) → bounds.size ≡ length image
+    ensures image { (image : List ℕ) → bounds.size ≡ length image
         → (IsTrue result ↔ IsDataPage image bounds.pages page) }
+    ensures bounds { IsTrue result → (3 ≤ page) × (page < bounds.pages) }
 {
     3 <= page && page < bounds.pages && PAGE_BYTES * (u64::from(page) + 1) <= bounds.size
 }
@@ -54,6 +56,7 @@ pub(crate) fn walk<D: Disk>(
     ensures ok { IfOk result (λ chain. IsTrue (D.honest disk.old)
         → (n : ℕ) → count ≡ pages_for n
         → IsChain (D.seen disk.old) bounds.pages first n chain.items) }
+    ensures data_pages { IfOk result (λ chain. AllData bounds.pages chain.items) }
     ensures no_chain { IsErrOf result NotACatalogue → IsTrue (D.honest disk.old)
         → (n : ℕ) (chain : List ℕ) → count ≡ pages_for n
         → ¬ IsChain (D.seen disk.old) bounds.pages first n chain }

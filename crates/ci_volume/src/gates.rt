@@ -1,9 +1,9 @@
-ghost use Rattle.std.specs.Prelude.{◌≡◌, ◌-◌, ◌+◌, ◌*◌, ◌≤◌, ◌<◌, ℕ, List, IsTrue, OnOk, false};
+ghost use Rattle.std.specs.Prelude.{◌≡◌, ◌-◌, ◌+◌, ◌*◌, ◌≤◌, ◌<◌, ℕ, List, IsTrue, OnOk, length, false};
 ghost use Rattle.ci_io.specs.Causes.{HasCause};
-ghost use Rattle.ci_device.specs.Images.{Only};
+ghost use Rattle.ci_device.specs.Images.{Holds, Only};
 ghost use Rattle.ci_device.specs.Time.{LeavesOnly};
 ghost use Rattle.ci_volume.specs.Layout.{IsShut};
-ghost use Rattle.ci_volume.specs.Steps.{EachLeft, IsWritten, Stands, StandsBeside, StandsEither};
+ghost use Rattle.ci_volume.specs.Steps.{EachLeft, IsOlder, IsWritten, Stands, StandsBeside, StandsEither};
 ghost use Rattle.ci_volume.specs.declared.slot.Slot.{Slot as Fields};
 
 use crate::Slot;
@@ -42,6 +42,11 @@ pub(crate) fn shut_gate<D: Disk>(disk: &mut D, which: u64, may_be_open: bool) ->
     ensures shut { OnOk result (IsTrue (D.honest disk.old) → (slot : Fields) (pages base : List ℕ)
         → EachLeft (D.may_leave disk.old) (StandsBeside may_be_open which slot pages base)
         → IsShut (D.seen disk.new) which) }
+    // What stands behind the slots stays.
+    ensures kept { OnOk result ((at : ℕ) (bytes : List ℕ) → 12288 ≤ at
+        → Holds (D.seen disk.old) at bytes → Holds (D.seen disk.new) at bytes) }
+    ensures size { OnOk result (12288 ≤ length (D.seen disk.old)
+        → length (D.seen disk.new) ≡ length (D.seen disk.old)) }
     ensures honest { D.honest disk.new ≡ D.honest disk.old }
     ensures cause { HasCause (D.faults disk.old) (D.faults disk.new) result }
 {
@@ -67,6 +72,16 @@ pub(crate) fn open_gate<D: Disk>(disk: &mut D, which: u64) -> Result<(), Failed>
         → (slot next : Fields) (pages base : List ℕ)
         → EachLeft (D.may_leave disk.old) (IsWritten which slot next pages base)
         → Stands which next pages base (D.seen disk.new)) }
+    // The slot that was current is the older one.
+    ensures older { OnOk result (IsTrue (D.honest disk.old)
+        → (slot next : Fields) (pages base : List ℕ)
+        → EachLeft (D.may_leave disk.old) (IsWritten which slot next pages base)
+        → IsOlder (1 - which) next.generation (D.seen disk.new)) }
+    // What stands behind the slots stays.
+    ensures kept { OnOk result ((at : ℕ) (bytes : List ℕ) → 12288 ≤ at
+        → Holds (D.seen disk.old) at bytes → Holds (D.seen disk.new) at bytes) }
+    ensures size { OnOk result (12288 ≤ length (D.seen disk.old)
+        → length (D.seen disk.new) ≡ length (D.seen disk.old)) }
     ensures honest { D.honest disk.new ≡ D.honest disk.old }
     ensures cause { HasCause (D.faults disk.old) (D.faults disk.new) result }
 {
@@ -90,6 +105,11 @@ pub(crate) fn fill_slot<D: Disk>(disk: &mut D, which: u64, next: Slot) -> Result
         → slot.generation < next.generation
         → EachLeft (D.may_leave disk.old) (StandsBeside false which slot pages base)
         → IsWritten which slot next pages base (D.seen disk.new)) }
+    // What stands behind the slots stays.
+    ensures kept { OnOk result ((at : ℕ) (bytes : List ℕ) → 12288 ≤ at
+        → Holds (D.seen disk.old) at bytes → Holds (D.seen disk.new) at bytes) }
+    ensures size { OnOk result (12288 ≤ length (D.seen disk.old)
+        → length (D.seen disk.new) ≡ length (D.seen disk.old)) }
     ensures honest { D.honest disk.new ≡ D.honest disk.old }
     ensures cause { HasCause (D.faults disk.old) (D.faults disk.new) result }
 {

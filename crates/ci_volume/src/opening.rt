@@ -1,10 +1,11 @@
-ghost use Rattle.std.specs.Prelude.{◌≡◌, ◌↔◌, ℕ, List, IfOk, IsErrOf, IsTrue, length};
+ghost use Rattle.std.specs.Prelude.{◌≡◌, ◌↔◌, ◌-◌, ℕ, List, IfOk, IsErrOf, IsTrue, length};
 ghost use Rattle.ci_io.specs.Causes.{Rose};
 ghost use Rattle.ci_device.specs.Images.{Only};
+ghost use Rattle.ci_pages.specs.Tables.{AllData};
 ghost use Rattle.ci_volume.specs.Chain.{IsChain, pages_for};
 ghost use Rattle.ci_volume.specs.Found.{IsTold};
 ghost use Rattle.ci_volume.specs.Opening.{IsBounded, Opens, OpensToNothing};
-ghost use Rattle.ci_volume.specs.Steps.{Stays};
+ghost use Rattle.ci_volume.specs.Steps.{EachLeft, StandsBeside, Stays};
 ghost use Rattle.ci_volume.specs.declared.fault.VolumeFault.TheVariants.{DiskFault, NotACatalogue, VolumeFull};
 
 use crate::chains::{Bounds, walk};
@@ -36,6 +37,13 @@ pub(crate) fn open_image<D: Disk>(disk: &mut D, alloc: Global) -> Result<Opened,
         opened.current.which opened.current.slot opened.root.items) }
     ensures told { IfOk result (λ opened. IsTrue (D.honest disk.old)
         → IsTold (D.seen disk.old) opened.current) }
+    ensures data_pages { IfOk result (λ opened.
+        AllData opened.current.slot.pages opened.root.items) }
+    ensures bounded { IfOk result (λ opened. IsBounded opened.current.slot) }
+    // A change of generation may follow.
+    ensures ready { IfOk result (λ opened. IsTrue (D.honest disk.old)
+        → EachLeft (D.may_leave disk.new) (StandsBeside opened.current.may_be_open
+        (1 - opened.current.which) opened.current.slot opened.root.items (D.seen disk.old))) }
     ensures nothing { IsErrOf result NotACatalogue → IsTrue (D.honest disk.old)
         → OpensToNothing (D.seen disk.old) }
     ensures stable { IfOk result (λ _. IsTrue (D.honest disk.old)
@@ -54,6 +62,9 @@ fn find_generation<D: Disk>(disk: &mut D, alloc: Global) -> Result<Opened, Volum
         opened.current.which opened.current.slot opened.root.items) }
     ensures told { IfOk result (λ opened. IsTrue (D.honest disk.old)
         → IsTold (D.seen disk.old) opened.current) }
+    ensures data_pages { IfOk result (λ opened.
+        AllData opened.current.slot.pages opened.root.items) }
+    ensures bounded { IfOk result (λ opened. IsBounded opened.current.slot) }
     ensures nothing { IsErrOf result NotACatalogue → IsTrue (D.honest disk.old)
         → OpensToNothing (D.seen disk.old) }
     ensures stays { Stays D.seen D.may_leave D.moment D.left_since D.honest disk.old disk.new }
@@ -77,6 +88,8 @@ fn find_root<D: Disk>(
     requires { IsTrue (D.honest disk.old) → IsTold (D.seen disk.old) current }
     ensures ok { IfOk result (λ root. IsTrue (D.honest disk.old) → Opens (D.seen disk.old)
         current.which current.slot root.items) }
+    ensures data_pages { IfOk result (λ root. AllData current.slot.pages root.items) }
+    ensures bounded { IfOk result (λ _. IsBounded current.slot) }
     ensures nothing { IsErrOf result NotACatalogue → IsTrue (D.honest disk.old)
         → OpensToNothing (D.seen disk.old) }
     ensures stays { Stays D.seen D.may_leave D.moment D.left_since D.honest disk.old disk.new }

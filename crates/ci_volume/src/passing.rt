@@ -1,6 +1,6 @@
-ghost use Rattle.std.specs.Prelude.{◌≡◌, ◌≤◌, ◌<◌, ℕ, List, IsTrue, OnOk};
+ghost use Rattle.std.specs.Prelude.{◌≡◌, ◌-◌, ◌≤◌, ◌<◌, ℕ, List, IsTrue, OnOk, length, true};
 ghost use Rattle.ci_io.specs.Causes.{HasCause};
-ghost use Rattle.ci_device.specs.Images.{Only};
+ghost use Rattle.ci_device.specs.Images.{Holds, Only};
 ghost use Rattle.ci_device.specs.Time.{LeavesOnly};
 ghost use Rattle.ci_volume.specs.Steps.{EachLeft, Stands, StandsBeside, StandsEither};
 ghost use Rattle.ci_volume.specs.declared.slot.Slot.{Slot as Fields};
@@ -29,8 +29,19 @@ pub(crate) fn pass_over<D: Disk>(
         → slot.generation < next.generation
         → EachLeft (D.may_leave disk.old) (StandsBeside may_be_open which slot pages base)
         → EachLeft (D.may_leave disk.new) (Stands which next pages base)) }
+    // The slot that was left is the older one, so that the generation after it may follow.
+    ensures ready { OnOk result (IsTrue (D.honest disk.old)
+        → (slot : Fields) (pages base : List ℕ)
+        → slot.generation < next.generation
+        → EachLeft (D.may_leave disk.old) (StandsBeside may_be_open which slot pages base)
+        → EachLeft (D.may_leave disk.new) (StandsBeside true (1 - which) next pages base)) }
     ensures stable { OnOk result (IsTrue (D.honest disk.old)
         → Only (D.seen disk.new) (D.may_leave disk.new)) }
+    // What stands behind the slots stays.
+    ensures kept { OnOk result ((at : ℕ) (bytes : List ℕ) → 12288 ≤ at
+        → Holds (D.seen disk.old) at bytes → Holds (D.seen disk.new) at bytes) }
+    ensures size { OnOk result (12288 ≤ length (D.seen disk.old)
+        → length (D.seen disk.new) ≡ length (D.seen disk.old)) }
     ensures honest { D.honest disk.new ≡ D.honest disk.old }
     ensures cause { HasCause (D.faults disk.old) (D.faults disk.new) result }
 {

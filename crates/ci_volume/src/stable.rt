@@ -38,3 +38,19 @@ pub(crate) fn write_stable<D: Disk>(disk: &mut D, at: u64, bytes: &[u8]) -> Resu
     disk.sync()?;
     Ok(())
 }
+
+/// Writes at a place, and leaves it unsynced.
+pub(crate) fn write_now<D: Disk>(disk: &mut D, at: u64, bytes: &[u8]) -> Result<(), Failed>
+    requires { at + length bytes.now ≤ DISK_BYTES }
+    ensures ok { OnOk result (IsTrue (D.honest disk.old)
+        → Holds (D.seen disk.new) at bytes.now) }
+    ensures others { Torn at (length bytes.now) (D.seen disk.old) (D.seen disk.new) }
+    ensures images { EachLeft (D.may_leave disk.new)
+        (IsTornFrom (D.may_leave disk.old) at (length bytes.now)) }
+    ensures any_moment { LeavesOnly D.moment D.left_since disk.old disk.new
+        (IsTornFrom (D.may_leave disk.old) at (length bytes.now)) }
+    ensures honest { D.honest disk.new ≡ D.honest disk.old }
+    ensures cause { HasCause (D.faults disk.old) (D.faults disk.new) result }
+{
+    disk.write_at(at, bytes)
+}

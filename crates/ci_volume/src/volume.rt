@@ -1,34 +1,44 @@
-ghost use Rattle.std.specs.Prelude.{◌≡◌, ◌-◌, ◌^◌, ◌<◌, ◌≤◌, ℕ, List, IfErr, IfOk, IsErrOf, IsTrue, MatchResult, OnOk, length};
+ghost use Rattle.std.specs.Prelude.{◌≡◌, ◌-◌, ◌<◌, ◌≤◌, [], ℕ, List, IfErr, IfOk, IsErrOf, IsTrue, MatchResult, OnOk, length};
 ghost use Rattle.ci_io.specs.Causes.{Rose};
 ghost use Rattle.ci_device.specs.Images.{Only};
-ghost use Rattle.ci_device.specs.Time.{LeavesOnly};
-ghost use Rattle.ci_volume.specs.Chain.{IsChain};
+ghost use Rattle.ci_pages.specs.Tables.{AllData, new_uses};
+ghost use Rattle.ci_pages.specs.Uses.{Marks};
+ghost use Rattle.ci_pages.specs.declared.page_use.PageUse.TheVariants.{Held};
+ghost use Rattle.ci_volume.specs.Chain.{IsChain, chain_bytes};
 ghost use Rattle.ci_volume.specs.Opening.{Opens, OpensToNothing};
-ghost use Rattle.ci_volume.specs.Steps.{EachLeft, Stands, StandsBeside, StandsEither, Stays};
-ghost use Rattle.ci_volume.specs.Volumes.{next_slot};
+ghost use Rattle.ci_volume.specs.Steps.{EachLeft, StandsBeside, Stays};
 ghost use Rattle.ci_volume.specs.declared.fault.VolumeFault.TheVariants.{DiskFault, NotACatalogue, VolumeFull};
 
 use crate::chains::{Bounds, walk};
+use crate::gathering::gather;
 use crate::opening::{open_image, page_count};
-use crate::passing::pass_over;
 use crate::stable::make_stable;
+use crate::writing::zeros;
 use crate::{NoVolume, Slot, VolumeFault};
+use ci_base::Text8;
 use ci_device::Disk;
-use std::alloc::Global;
+use ci_pages::PageTable;
+use std::alloc::{AllocError, Global};
 
 /// A volume, its current generation, and the pages of its root.
 #[derive(Drop)]
 pub struct Volume<D: Disk> {
-    disk: D,
+    pub(crate) disk: D,
     /// The number of the current slot, 0 or 1.
-    which: u64,
-    slot: Slot,
+    pub(crate) which: u64,
+    pub(crate) slot: Slot,
     /// How many bytes the image has.
-    size: u64,
+    pub(crate) size: u64,
     /// Whether the gate of the slot beside the current one may be open.
-    may_be_open: bool,
-    root: Vec<u32>,
+    pub(crate) may_be_open: bool,
+    pub(crate) root: Vec<u32>,
+    pub(crate) table: PageTable,
+    /// The bytes of one page.
+    pub(crate) buffer: Vec<u8>,
     ghost number: { which ≤ 1 },
+    ghost buffer_size: { length buffer.items ≡ 4096 },
+    ghost account: { length table.uses.pages.items ≡ slot.pages },
+    ghost few: { slot.pages ≤ 262144 },
 }
 
 impl<D: Disk> Volume<D> {
@@ -36,6 +46,12 @@ impl<D: Disk> Volume<D> {
     pub fn open(alloc: Global, disk: D) -> Result<Volume<D>, NoVolume<D>>
         ensures ok { IfOk result (λ v. IsTrue (D.honest disk)
             → Opens (D.seen disk) v.which v.slot v.root.items) }
+        ensures held { IfOk result (λ v. Marks (new_uses v.slot.pages)
+            v.table.uses.pages.items v.root.items Held) }
+        ensures pending { IfOk result (λ v. v.table.pending.items ≡ []) }
+        // A change of generation may follow.
+        ensures ready { IfOk result (λ v. IsTrue (D.honest disk) → EachLeft (D.may_leave v.disk)
+            (StandsBeside v.may_be_open (1 - v.which) v.slot v.root.items (D.seen disk))) }
         ensures sized { IfOk result (λ v. IsTrue (D.honest disk)
             → v.size ≡ length (D.seen v.disk)) }
         ensures nothing { IfErr result (λ no. no.fault ≡ NotACatalogue → IsTrue (D.honest disk)
@@ -53,14 +69,25 @@ impl<D: Disk> Volume<D> {
     {
         let mut disk = disk;
         match open_image(&mut disk, alloc) {
-            Ok(opened) => Ok(Volume {
-                disk,
-                which: opened.current.which,
-                slot: opened.current.slot,
-                size: opened.current.length,
-                may_be_open: opened.current.may_be_open,
-                root: opened.root,
-            }),
+            Ok(opened) => {
+                let current = opened.current;
+                match prepare(alloc, current.slot.pages, &opened.root) {
+                    Ok((table, buffer)) => Ok(Volume {
+                        disk,
+                        which: current.which,
+                        slot: current.slot,
+                        size: current.length,
+                        may_be_open: current.may_be_open,
+                        root: opened.root,
+                        table,
+                        buffer,
+                    }),
+                    Err(_) => Err(NoVolume {
+                        fault: VolumeFault::OutOfMemory,
+                        disk,
+                    }),
+                }
+            }
             Err(fault) => Err(NoVolume { fault, disk }),
         }
     }
@@ -101,13 +128,24 @@ impl<D: Disk> Volume<D> {
         ensures failed { IsErrOf result DiskFault
             → Rose (D.faults self.old.disk) (D.faults self.new.disk) }
         ensures never_full { (needed free : ℕ) → ¬ IsErrOf result (VolumeFull needed free) }
+        ensures place { (self.new.which ≡ self.old.which) × (self.new.slot ≡ self.old.slot)
+            × (self.new.size ≡ self.old.size) × (self.new.may_be_open ≡ self.old.may_be_open)
+            × (self.new.root.items ≡ self.old.root.items) }
+        ensures account { self.new.table ≡ self.old.table }
     {
-        let bounds = Bounds {
-            pages: self.slot.pages,
-            size: self.size,
-        };
+        let bounds = self.bounds();
         let chain = walk(&mut self.disk, alloc, bounds, first, page_count(size))?;
         Ok(chain)
+    }
+
+    pub(crate) fn bounds(&self) -> Bounds
+        ensures pages { result.pages ≡ self.now.slot.pages }
+        ensures size { result.size ≡ self.now.size }
+    {
+        Bounds {
+            pages: self.slot.pages,
+            size: self.size,
+        }
     }
 
     /// Makes what was written stable.
@@ -119,44 +157,52 @@ impl<D: Disk> Volume<D> {
         ensures failed { IsErrOf result DiskFault
             → Rose (D.faults self.old.disk) (D.faults self.new.disk) }
         ensures only_failed { (fault : _) → IsErrOf result fault → fault ≡ DiskFault }
+        ensures place { (self.new.which ≡ self.old.which) × (self.new.slot ≡ self.old.slot)
+            × (self.new.size ≡ self.old.size) × (self.new.may_be_open ≡ self.old.may_be_open)
+            × (self.new.root.items ≡ self.old.root.items) }
+        ensures account { self.new.table ≡ self.old.table }
     {
         make_stable(&mut self.disk)?;
         Ok(())
     }
 
-    /// Goes to the next generation, whose root is a chain that is written. At Ok it is stable.
-    pub fn pass_to(&mut self, root: u32, size: u32) -> Result<(), VolumeFault>
-        requires { self.old.slot.generation < 2 ^ 62 - 1 }
-        // At each moment a stop leaves the old generation or the next, and the pages of both.
-        ensures any_moment { IsTrue (D.honest self.old.disk) → (pages base : List ℕ)
-            → EachLeft (D.may_leave self.old.disk) (StandsBeside self.old.may_be_open
-            (1 - self.old.which) self.old.slot pages base)
-            → LeavesOnly D.moment D.left_since self.old.disk self.new.disk
-            (StandsEither (1 - self.old.which) self.old.slot
-            (next_slot self.old.slot root size) pages base) }
-        ensures acknowledged { OnOk result (IsTrue (D.honest self.old.disk)
-            → (pages base : List ℕ)
-            → EachLeft (D.may_leave self.old.disk) (StandsBeside self.old.may_be_open
-            (1 - self.old.which) self.old.slot pages base)
-            → EachLeft (D.may_leave self.new.disk)
-            (Stands self.new.which self.new.slot pages base)) }
-        ensures next { OnOk result (self.new.slot ≡ next_slot self.old.slot root size) }
+    /// The bytes of a chain.
+    pub fn read_run(&mut self, alloc: Global, first: u32, size: u32) -> Result<Text8, VolumeFault>
+        requires some { 0 < size }
+        requires sized { IsTrue (D.honest self.old.disk)
+            → self.old.size ≡ length (D.seen self.old.disk) }
+        ensures ok { IfOk result (λ bytes. IsTrue (D.honest self.old.disk)
+            → (chain : List ℕ)
+            → IsChain (D.seen self.old.disk) self.old.slot.pages first size chain
+            → bytes ≡ chain_bytes (D.seen self.old.disk) chain size) }
+        ensures is_chain { IfOk result (λ _. IsTrue (D.honest self.old.disk)
+            → (chain : List ℕ)
+            × IsChain (D.seen self.old.disk) self.old.slot.pages first size chain) }
+        ensures no_chain { IsErrOf result NotACatalogue → IsTrue (D.honest self.old.disk)
+            → (chain : List ℕ)
+            → ¬ IsChain (D.seen self.old.disk) self.old.slot.pages first size chain }
+        ensures stays { Stays D.seen D.may_leave D.moment D.left_since D.honest
+            self.old.disk self.new.disk }
         ensures failed { IsErrOf result DiskFault
             → Rose (D.faults self.old.disk) (D.faults self.new.disk) }
-        ensures only_failed { (fault : _) → IsErrOf result fault → fault ≡ DiskFault }
+        ensures never_full { (needed free : ℕ) → ¬ IsErrOf result (VolumeFull needed free) }
+        ensures place { (self.new.which ≡ self.old.which) × (self.new.slot ≡ self.old.slot)
+            × (self.new.size ≡ self.old.size) × (self.new.may_be_open ≡ self.old.may_be_open)
+            × (self.new.root.items ≡ self.old.root.items) }
+        ensures account { self.new.table ≡ self.old.table }
     {
-        let beside = 1 - self.which;
-        let next = Slot {
-            generation: self.slot.generation + 1,
-            pages: self.slot.pages,
-            root,
-            length: size,
-        };
-        pass_over(&mut self.disk, beside, self.may_be_open, next)?;
-        self.which = beside;
-        self.slot = next;
-        self.may_be_open = true;
-        Ok(())
+        let bounds = self.bounds();
+        let count = page_count(size);
+        let mut bytes = gather(
+            &mut self.disk,
+            &mut self.buffer,
+            alloc,
+            bounds,
+            first,
+            count,
+        )?;
+        bytes.truncate(size as usize);
+        Ok(Text8::from(bytes))
     }
 
     /// Gives the disk back.
@@ -165,4 +211,23 @@ impl<D: Disk> Volume<D> {
     {
         self.disk
     }
+}
+
+/// What a volume keeps of its pages, and the bytes of one.
+pub(crate) fn prepare(
+    alloc: Global,
+    pages: u32,
+    root: &[u32],
+) -> Result<(PageTable, Vec<u8>), AllocError>
+    requires least { 3 ≤ pages }
+    requires most { pages ≤ 262144 }
+    requires data_pages { AllData pages root.now }
+    ensures marked { IfOk result (λ p.
+        Marks (new_uses pages) p.0.uses.pages.items root.now Held) }
+    ensures pending { IfOk result (λ p. p.0.pending.items ≡ []) }
+    ensures buffer { IfOk result (λ p. length p.1.items ≡ 4096) }
+{
+    let table = PageTable::opened(alloc, pages, root)?;
+    let buffer = zeros(alloc, 4096)?;
+    Ok((table, buffer))
 }

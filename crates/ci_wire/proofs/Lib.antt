@@ -3,3 +3,4 @@ pub mod BodyLemmas
 pub mod FrontLemmas
 pub mod StreamLemmas
 pub mod LawLemmas
+pub mod LengthLemmas

@@ -1,4 +1,4 @@
-ghost use Rattle.std.specs.Prelude.{◌≡◌, ◌++◌, [], true, false, IfNone, IfOk, IfSome, IsErrOf, OnErr, OnOk, drop, vec_len, ◌≤◌};
+ghost use Rattle.std.specs.Prelude.{◌≡◌, ◌++◌, ◌↔◌, [], true, false, IfNone, IfOk, IfSome, IsErrOf, IsTrue, OnErr, OnOk, drop, vec_len, ◌≤◌};
 ghost use Rattle.ci_wire.specs.Stream.{BeginsWithFrame, IsBad, IsPartial};
 
 use crate::front::read_front;
@@ -85,6 +85,13 @@ impl Frames {
             }
             Err(FrameFault::OutOfMemory) => Err(FrameFault::OutOfMemory),
         }
+    }
+
+    /// Whether no byte of an unfinished frame is held: all that were fed were taken.
+    pub fn is_empty(&self) -> bool
+        ensures { IsTrue result ↔ (self.now.bytes ≡ []) }
+    {
+        self.held().is_empty()
     }
 
     /// Another value with the same bytes to come.

@@ -5,4 +5,4 @@ pub returns-clause-words : goal.returns-clause-words
 returns-clause-words c =
     let noise = c.args.noise.now in
     let pieces = c.args.transcript.now in
-    λ key place. rw (c.new.ensures.entry, c.in_ok-words.ensures.list, c.items-pieces.ensures) (stands-words_of noise pieces key place)
+    λ key place. rw (c.new.ensures.entry, c.in_ok-words.ensures.list, c.items-pieces.ensures.pieces) (stands-words_of noise pieces key place)

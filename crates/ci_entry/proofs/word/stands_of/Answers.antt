@@ -10,7 +10,7 @@ use Rattle.ci_entry.proofs.word.stands_of.Goals as goal
 pub add_runs-requires-clause-few : goal.add_runs-requires-clause-few
 add_runs-requires-clause-few c =
     let n = get_or worded c.loop-number.number-index 0 in
-    rw (c.as_slice.ensures.value, c.in_ok-runs.ensures) (omega (arith, few_runs n c.args.pieces.now, c.requires.pieces))
+    rw (c.as_slice.ensures.value, c.in_ok-runs.ensures) (omega (arith, few_runs n c.args.pieces.now, c.requires.count))
 
 pub add_runs-requires-clause-short : goal.add_runs-requires-clause-short
 add_runs-requires-clause-short c =

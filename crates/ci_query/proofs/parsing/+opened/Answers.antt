@@ -1,8 +1,23 @@
-use Rattle.std.proofs.Common.{◌<◌, sym, ap, ◌∙◌, arith}
-use Rattle.ci_query.proofs.ParseLemmas.{opened-none, opened-some}
+use Rattle.std.proofs.Common.{◌≡◌, ℕ, suc, ◌-◌, ◌<◌, List, Err, sym, ap, ◌∙◌, arith}
 use Rattle.ci_dialect.specs.declared.fault.QueryFault.TheVariants.{TooDeep}
-use Rattle.std.proofs.Common.{Err}
+use Rattle.ci_dialect.specs.declared.sign.Opener.{Opener}
+use Rattle.ci_dialect.specs.Grammar.{behind, opened}
+use Rattle.ci_dialect.specs.Left.{Left, next, place}
+use Rattle.ci_query.specs.Reading.{read}
 use Rattle.ci_query.proofs.parsing.+opened.Goals as goal
+
+opened-none : (noise : List (List ℕ)) (depth : ℕ) (by : Opener) (l : Left) → depth ≡ 0 → read (opened noise depth by) l ≡ Err (TooDeep (place l))
+unfolding opened
+opened-none noise depth by l none = ap (λ n. read (opened noise n by) l) none
+
+opened-some : (noise : List (List ℕ)) (depth : ℕ) (by by' : Opener) (l l' : Left) → 0 < depth → by ≡ by' → l' ≡ next l
+    → read (opened noise depth by) l ≡ read (behind noise (opened noise (depth - 1)) by') l'
+unfolding opened
+opened-some noise depth by by' l l' some same step =
+    let deeper : depth ≡ suc (depth - 1) = omega arith in
+    ap (λ n. read (opened noise n by) l) deeper
+    ∙ ap (λ b. read (behind noise (opened noise (depth - 1)) b) (next l)) same
+    ∙ ap (λ m. read (behind noise (opened noise (depth - 1)) by') m) (sym step)
 
 pub returns-then-depth-eq0 : goal.returns-then-depth-eq0
 returns-then-depth-eq0 t c other =

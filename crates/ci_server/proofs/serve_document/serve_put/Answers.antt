@@ -1,4 +1,4 @@
-use Rattle.std.proofs.Common.{arith, [], ◌∷◌, inr, refl, inl}
+use Rattle.std.proofs.Common.{[], ◌∷◌, inr, refl, inl}
 use Rattle.std.proofs.lemmas.Result.{err_from_is_err_and}
 use Rattle.ci_change.specs.declared.notice.What.TheVariants.{Changed}
 use Rattle.ci_chunk.specs.Plain.{plain}
@@ -8,7 +8,7 @@ use Rattle.ci_journal.specs.declared.request.Request.TheVariants as request
 use Rattle.ci_journal.specs.Folds.{next_notice}
 use Rattle.ci_journal.specs.Tells.{event}
 use Rattle.ci_core.specs.Changes.{noted}
-use Rattle.ci_server.proofs.DocumentLemmas.{MayPut-at, noted-at, uncrowded-note, plain-small, put-at, replied-serves}
+use Rattle.ci_server.proofs.DocumentLemmas.{MayPut-at, noted-at, uncrowded-note, put-at, replied-serves}
 use Rattle.ci_server.specs.Turns.Front.{Begins}
 use Rattle.ci_server.proofs.NotingLemmas.{first-change, first-put, whole-put}
 use Rattle.ci_server.proofs.StepsLemmas.{IsAt-none, MaySay-at, steps-starve, steps-stop}
@@ -31,18 +31,12 @@ returns-in_err-transcript-clause-err g c =
     rw (p.1, p.2) (steps-starve c.args.catalog.now c.args.id (request.Put c.args.path.now c.args.text.now) _ (noted 0 c.args.path.now seq.0 Changed ∷ []) at
     (first-change _ _ c.args.id c.args.path.now seq c.args.text.now))
 
-pub put-requires-clause-may : goal.put-requires-clause-may
-put-requires-clause-may g c =
+pub put-requires : goal.put-requires
+put-requires g c =
     let seq = c.in_ok-seq.seq in
     let n = c.in_ok-seq.ensures in
     let at = noted-at _ _ c.args.path.now seq Changed c.requires.asked.sound n.seq n.ok n.unrefused n.fixed n.crowded in
     MayPut-at _ _ c.args.path.now c.args.text.now seq n.seq at
-
-pub put-requires-clause-pieces : goal.put-requires-clause-pieces
-put-requires-clause-pieces g c = rw c.in_ok-transcript.ensures (omega arith)
-
-pub put-requires-clause-bytes : goal.put-requires-clause-bytes
-put-requires-clause-bytes g c = rw (c.in_ok-transcript.ensures, c.as_str.ensures) (plain-small c.args.path.now c.args.text.now c.requires.short)
 
 pub returns-in_err-put-clause-err : goal.returns-in_err-put-clause-err
 returns-in_err-put-clause-err g c =
@@ -54,7 +48,7 @@ returns-in_err-put-clause-err g c =
     rw (p.1, p.2) (steps-stop c.args.catalog.now c.args.id (request.Put c.args.path.now c.args.text.now) _ _ (noted 0 c.args.path.now seq.0 Changed ∷ [])
     (event 0 (Put c.args.path.now seq (plain c.args.path.now c.args.text.now))) _ at (first-change _ _ c.args.id c.args.path.now seq c.args.text.now)
     (first-put _ _ c.args.id c.args.path.now seq c.args.text.now c.requires.asked.sound.plain)
-    (rw (c.in_ok-transcript.ensures, c.as_str.ensures) at refused.refused) refused.fixed (inl refl))
+    (rw c.in_ok-transcript.ensures at refused.refused) refused.fixed (inl refl))
 
 pub say-requires : goal.say-requires
 say-requires g c =
@@ -62,7 +56,7 @@ say-requires g c =
     let n = c.in_ok-seq.ensures in
     let at = noted-at _ _ c.args.path.now seq Changed c.requires.asked.sound n.seq n.ok n.unrefused n.fixed n.crowded in
     let u = c.in_ok-put.ensures in
-    let put = put-at _ _ c.args.path.now c.args.text.now seq n.seq at _ (rw (c.in_ok-transcript.ensures, c.as_str.ensures) at u.ok) u.unrefused u.fixed in
+    let put = put-at _ _ c.args.path.now c.args.text.now seq n.seq at _ (rw c.in_ok-transcript.ensures at u.ok) u.unrefused u.fixed in
     MaySay-at _ _ _ c.args.id put refl refl c.requires.asked.may_reply
 
 pub returns-in_err-say-clause-err : goal.returns-in_err-say-clause-err
@@ -72,7 +66,7 @@ returns-in_err-say-clause-err g c =
     let n = c.in_ok-seq.ensures in
     let at = noted-at _ _ c.args.path.now seq Changed c.requires.asked.sound n.seq n.ok n.unrefused n.fixed n.crowded in
     let u = c.in_ok-put.ensures in
-    let put = put-at _ _ c.args.path.now c.args.text.now seq n.seq at _ (rw (c.in_ok-transcript.ensures, c.as_str.ensures) at u.ok) u.unrefused u.fixed in
+    let put = put-at _ _ c.args.path.now c.args.text.now seq n.seq at _ (rw c.in_ok-transcript.ensures at u.ok) u.unrefused u.fixed in
     rw (p.1, p.2) (steps-stop c.args.catalog.now c.args.id (request.Put c.args.path.now c.args.text.now) _ _
     (noted 0 c.args.path.now seq.0 Changed ∷ event 0 (Put c.args.path.now seq (plain c.args.path.now c.args.text.now)) ∷ []) (event 0 (Said c.args.id reply.Ok)) _ put
     (first-put _ _ c.args.id c.args.path.now seq c.args.text.now c.requires.asked.sound.plain) (inr (whole-put _ _ c.args.id c.args.path.now seq c.args.text.now c.requires.asked.sound.plain))
@@ -84,7 +78,7 @@ returns-clause-ok g c =
     let n = c.in_ok-seq.ensures in
     let at = noted-at _ _ c.args.path.now seq Changed c.requires.asked.sound n.seq n.ok n.unrefused n.fixed n.crowded in
     let u = c.in_ok-put.ensures in
-    let put = put-at _ _ c.args.path.now c.args.text.now seq n.seq at _ (rw (c.in_ok-transcript.ensures, c.as_str.ensures) at u.ok) u.unrefused u.fixed in
+    let put = put-at _ _ c.args.path.now c.args.text.now seq n.seq at _ (rw c.in_ok-transcript.ensures at u.ok) u.unrefused u.fixed in
     let s = c.in_ok-say.ensures in
     replied-serves _ _ _ c.args.id (request.Put c.args.path.now c.args.text.now) reply.Ok
     (noted 0 c.args.path.now seq.0 Changed ∷ event 0 (Put c.args.path.now seq (plain c.args.path.now c.args.text.now)) ∷ []) put s.ok s.unrefused s.fixed (whole-put _ _ c.args.id c.args.path.now seq c.args.text.now c.requires.asked.sound.plain)

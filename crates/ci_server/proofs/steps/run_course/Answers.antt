@@ -1,4 +1,4 @@
-use Rattle.std.proofs.Common.{◌∙◌, [], false, ap, refl, sym}
+use Rattle.std.proofs.Common.{◌∙◌, [], arith, false, ap, refl, sym}
 use Rattle.ci_io.specs.Reading.{Reading, ahead}
 use Rattle.ci_core.specs.Core.{terms_of}
 use Rattle.ci_core.specs.Fixed.{Fixed}
@@ -17,7 +17,7 @@ pub returns-in-Ok-new : goal.returns-in-Ok-new
 returns-in-Ok-new g c =
     let fixed : Fixed = record { limit = c.args.settings.now.journal; most = c.args.settings.now.documents; terms = terms_of c.args.settings.now.noise; written = g.K.Sink.written c.args.sink; faults = g.K.Sink.faults c.args.sink } in
     let e = c.end.ensures in
-    let told = IsTold-ends c.in-Ok-new.reader c.in-Ok.catalog c.read_lines-status.new.reader c.read_lines-status.new.catalog fixed c.read_lines-status.result c.in-Ok.ensures.fixed c.read_lines-status.ensures (rw e.journal at e.run) (rw e.journal at e.within) in
+    let told = IsTold-ends c.in-Ok-new.reader c.in-Ok.catalog c.read_lines-status.new.reader c.read_lines-status.new.catalog fixed c.read_lines-status.result c.in-Ok.ensures.fixed c.read_lines-status.ensures (rw e.journal at e.run) (rw e.journal at e.within) c.into_source.ensures.held in
     IsTold-handed (course fixed c.in-Ok-new.reader c.read_lines-status.new.reader c.read_lines-status.new.catalog c.read_lines-status.result) _ _ _ _ _ _ _ _
     (sym (ap ahead c.in-Ok-new.ensures.ok ∙ ahead-fresh _)) (ap (λ x. g.S.Source.left x) e.source ∙ c.into_source.ensures.left)
     (sym (ap (λ (r : Reading). r.faults) c.in-Ok-new.ensures.ok)) (ap (λ x. g.S.Source.faults x) e.source ∙ c.into_source.ensures.faults)
@@ -30,7 +30,7 @@ returns-in-Err-new g c =
     let e = c.end-in-Err-new.ensures in
     let made = c.in-Ok.ensures in
     let ends = Ends-unread first c.in-Ok.catalog made.events (IsBetween-fresh c.in-Ok.catalog c.args.settings.now.noise made.fixed.terms made.events made.numbered made.unrefused) in
-    let told = IsTold-ends first c.in-Ok.catalog first c.in-Ok.catalog fixed OutOfMemory made.fixed ends (rw e.journal at e.run) (rw e.journal at e.within) in
+    let told = IsTold-ends first c.in-Ok.catalog first c.in-Ok.catalog fixed OutOfMemory made.fixed ends (rw e.journal at e.run) (rw e.journal at e.within) (omega arith) in
     IsTold-handed (course fixed first first c.in-Ok.catalog OutOfMemory) _ _ _ _ _ _ _ _
     (sym (ahead-fresh _)) (ap (λ x. g.S.Source.left x) (e.source ∙ c.in-Err-new.ensures.err))
     refl (ap (λ x. g.S.Source.faults x) (e.source ∙ c.in-Err-new.ensures.err))

@@ -1,6 +1,7 @@
 use Rattle.std.proofs.Common.{◌≡◌, ℕ, ◌-◌, List, Bool, true, slice_index, sym, ◌∙◌, subst, arith}
 use Rattle.ci_volume.specs.Steps.{EachLeft, IsTornFrom, Stands, StandsBeside}
 use Rattle.ci_volume.specs.declared.slot.Slot.{Slot}
+use Rattle.ci_volume.proofs.Parts.{holds_behind}
 use Rattle.ci_volume.proofs.Moments.{weakens}
 use Rattle.ci_volume.proofs.Writes.{held_byte, shut_from}
 use Rattle.ci_volume.proofs.gates.shut_gate.Goals as goal
@@ -37,3 +38,12 @@ returns-clause-shut g c honest slot pages base before is_open =
     let zero = subst (λ (i : ℕ). slice_index seen i ≡ 0) c.gate_offset.ensures (held_byte seen at 0 stable.1) in
     let no : 0 ≡ 90 = sym zero ∙ is_open in
     absurd (omega (arith, no))
+
+pub returns-clause-kept : goal.returns-clause-kept
+returns-clause-kept g c at bytes behind holds =
+    holds_behind c.gate_offset.result 1 (g.D.Disk.seen c.args.disk.now) (g.D.Disk.seen c.write_stable.new.disk) at bytes c.write_stable.ensures.others (omega (arith, c.gate_offset.ensures, c.requires, behind)) holds
+
+pub returns-clause-size : goal.returns-clause-size
+returns-clause-size g c long =
+    let torn = c.write_stable.ensures.others in
+    omega (arith, torn.no_longer, torn.no_shorter, c.gate_offset.ensures, c.requires, long)

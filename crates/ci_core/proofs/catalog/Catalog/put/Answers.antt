@@ -13,7 +13,7 @@ invariant_of-self g c =
     let place : c.in_ok-at.at ≡ length old.sheet.events = c.in_ok-at.ensures.at ∙ ap (λ (core : Core). length core.sheet.events) (sym c.self.view_is) in
     let step : IsStep old c.put-made.new.self c.self.inside.refusal (event c.args.by (Put c.args.path.now c.args.seq c.args.transcript)) c.put-made.result c.keep.new.refusal = record {
       unrefused = ap (λ (core : Core). core.refusal) c.self.view_is ∙ c.in_ok-at.ensures.unrefused;
-      may = subst (λ (core : Core). MayPut core.terms core.sheet.events c.args.by (record { path = c.args.path.now; seq = c.args.seq; what = Changed })) (sym c.self.view_is) c.requires.may;
+      may = subst (λ (core : Core). MayPut core.terms core.sheet.events c.args.by (record { path = c.args.path.now; seq = c.args.seq; what = Changed })) (sym c.self.view_is) c.requires;
       ok = c.put-made.ensures.ok;
       err = c.put-made.ensures.refused;
       kept = c.keep.ensures.ok;

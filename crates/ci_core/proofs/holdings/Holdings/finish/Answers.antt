@@ -42,6 +42,6 @@ invariant_of-self-2 g c =
     λ s numbers stood. subst (λ es. StandFor (serve_entries s c.args.batch.now.docs es).documents c.serve_all.new.documents.entries) entries
     (subst (λ ds. StandFor (serve_entries s ds c.in_ok-entries.entries.items).documents c.serve_all.new.documents.entries) docs (c.serve_all.ensures.stands s numbers stood)) in (
       c.self.invariant.0,
-      finished-kept _ _ _ c.self.invariant.1 _ _ c.args.by c.args.batch.now c.args.outcomes _ _ c.make_places.new.documents.entries _ may c.requires.indexable c.in_ok-prepare.ensures.ok.stays
+      finished-kept _ _ _ c.self.invariant.1 _ _ c.args.by c.args.batch.now c.args.outcomes _ _ c.make_places.new.documents.entries _ may c.requires.done c.in_ok-prepare.ensures.ok.stays
           c.in_ok-make_places.ensures.keeps served c.give_back.ensures stands c.add.ensures,
     )

@@ -28,10 +28,10 @@ invariant_of-self-in_err-served g c =
 
 pub invariant_of-self-2 : goal.invariant_of-self-2
 invariant_of-self-2 g c =
-    let may = subst (λ (core : Core). MayPut core.terms core.sheet.events c.args.by (record { path = c.args.path.now; seq = c.args.seq; what = Changed })) (sym c.self.view_is) c.requires.may in
+    let may = subst (λ (core : Core). MayPut core.terms core.sheet.events c.args.by (record { path = c.args.path.now; seq = c.args.seq; what = Changed })) (sym c.self.view_is) c.requires in
     let filled = c.in_ok-entry-2.ensures ∙ c.in_ok-entry.ensures.entry in
     let added = subst (λ path. Adds c.prepare.new.self c.add.new.self (event c.args.by (Put path c.args.seq c.args.transcript))) c.in_ok-copied.ensures c.add.ensures in (
       c.self.invariant.0,
       put-kept _ _ _ c.self.invariant.1 _ _ c.args.by c.args.path.now c.args.seq c.served_of-served.result c.args.transcript c.in_ok-entry-2.entry _ c.make_place.new.documents.entries _ may
-          (c.requires.pieces, c.requires.bytes) c.in_ok-prepare.ensures.ok.stays filled c.served_of-served.ensures c.in_ok-served.ensures.ok c.make_place.ensures.keeps c.serve.ensures added,
+          c.in_ok-prepare.ensures.ok.stays filled c.served_of-served.ensures c.in_ok-served.ensures.ok c.make_place.ensures.keeps c.serve.ensures added,
     )

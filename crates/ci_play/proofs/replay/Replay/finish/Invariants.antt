@@ -1,7 +1,6 @@
-use Rattle.std.proofs.Common.{◌≡◌, fold, All}
+use Rattle.std.proofs.Common.{◌≡◌, fold}
 use Rattle.std.specs.Iterator.Adapters.{zip_first, zip_second}
 use Rattle.std.specs.Slice.Iter.{iter_rest}
-use Rattle.ci_core.specs.Serving.{IsIndexable}
 use Rattle.ci_core.specs.Core.{terms_of}
 use Rattle.ci_journal.specs.Filings.{fates_at_end}
 use Rattle.ci_journal.specs.Served.{serve}
@@ -14,8 +13,5 @@ abbrev pub invariant-loop-path : goal.invariant-loop-path
 invariant-loop-path l =
     let docs = iter_rest (zip_first l.path-iterator) in
     let outcomes = iter_rest (zip_second l.path-iterator) in
-    record {
-      indexable : All IsIndexable outcomes;
-      comes : (served : Served) → Tells served l.initial.self → (mid : Served) × Tells mid l.self
-          × (fold (serve (terms_of l.noise)) mid (fates_at_end docs (Through outcomes)) ≡ fold (serve (terms_of l.noise)) served (fates_at_end l.docs (Through l.outcomes)));
-    }
+    (served : Served) → Tells served l.initial.self → (mid : Served) × Tells mid l.self
+    × (fold (serve (terms_of l.noise)) mid (fates_at_end docs (Through outcomes)) ≡ fold (serve (terms_of l.noise)) served (fates_at_end l.docs (Through l.outcomes)))

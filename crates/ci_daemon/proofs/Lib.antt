@@ -1,0 +1,4 @@
+pub mod HearingLemmas
+pub mod QuestionLemmas
+pub mod RoundLemmas
+pub mod ServingLemmas

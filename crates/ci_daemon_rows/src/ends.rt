@@ -1,0 +1,42 @@
+//! How services end.
+
+use crate::service::{CutOff, Unread, Whole};
+use crate::table::unmet;
+use std::test::Fail;
+
+#[test]
+fn ends_of_the_source(rt: HostRuntime) -> Result<(), Fail> {
+    // nothing at all; a frame that is cut; a length that is cut
+    const ROWS: &str = "\
+nothing => Quiet nothing
+05 => BadFrame nothing
+get_chunk 0503 => BadFrame end_of_chunks
+get_chunk 80 => BadFrame end_of_chunks";
+    assert_eq!(rt; unmet::<Whole>(rt.alloc(), ROWS)?.as_str(), "");
+    Ok(())
+}
+
+#[test]
+fn frames_that_are_no_calls(rt: HostRuntime) -> Result<(), Fail> {
+    // an answer; a body of no kind; no body; a length that is spelled longer than it need be
+    const ROWS: &str = "\
+get_chunk ok get_chunk => BadFrame end_of_chunks
+get_chunk 0109 get_chunk => BadFrame end_of_chunks
+get_chunk 00 get_chunk => BadFrame end_of_chunks
+get_chunk 810002 get_chunk => BadFrame end_of_chunks";
+    assert_eq!(rt; unmet::<Whole>(rt.alloc(), ROWS)?.as_str(), "");
+    Ok(())
+}
+
+#[test]
+fn faults(rt: HostRuntime) -> Result<(), Fail> {
+    const UNREAD: &str = "\
+get_chunk => ReadFault end_of_chunks
+init:/a.txt get_text 05 => ReadFault ok no_text";
+    const CUT_OFF: &str = "\
+get_chunk => Quiet end_of_chunks
+get_chunk get_chunk get_chunk => WriteFault end_of_chunks 05108004";
+    assert_eq!(rt; unmet::<Unread>(rt.alloc(), UNREAD)?.as_str(), "");
+    assert_eq!(rt; unmet::<CutOff>(rt.alloc(), CUT_OFF)?.as_str(), "");
+    Ok(())
+}
