@@ -3,13 +3,13 @@
 use ci_base::Text8;
 use std::alloc::{AllocError, Global};
 
-// An image: its gates, the fields of its slots (generation, pages, root, length), the pages of its
-// chains with the page that follows each, and how many bytes it has.
+// An image: its gates, the fields of its slots (generation, pages, root, length), a page of a chain
+// with the page that follows it, and how many bytes it has.
 #[derive(Clone, Copy)]
 pub(crate) struct Image {
     pub gates: [u8; 2],
     pub slots: [[u64; 4]; 2],
-    pub links: &'static [(usize, u32)],
+    pub link: Option<(u64, u64)>,
     pub size: usize,
 }
 
@@ -33,20 +33,25 @@ fn small(number: u64) -> u32 {
 }
 
 pub(crate) fn bytes_of(alloc: Global, image: &Image) -> Result<Text8, AllocError> {
-    let gates = image.gates;
-    let slots = image.slots;
-    let links = image.links;
     let mut bytes = Vec::from_elem(alloc, 0u8, image.size)?;
-    put(&mut bytes, 0, b"CICAT1");
-    put(&mut bytes, 6, &gates);
-    put_slot(&mut bytes, 4096, &slots[0]);
-    put_slot(&mut bytes, 8192, &slots[1]);
-    put_links(&mut bytes, links);
+    put_image(&mut bytes, image);
     Ok(Text8::from(bytes))
 }
 
-fn put_links(bytes: &mut [u8], links: &[(usize, u32)]) {
-    for (page, next) in links {
-        put(bytes, page.saturating_mul(4096), &next.to_be_bytes());
+fn put_image(bytes: &mut [u8], image: &Image) {
+    put(bytes, 0, b"CICAT1");
+    put(bytes, 6, &image.gates);
+    put_slot(bytes, 4096, &image.slots[0]);
+    put_slot(bytes, 8192, &image.slots[1]);
+    put_link(bytes, image.link);
+}
+
+fn put_link(bytes: &mut [u8], link: Option<(u64, u64)>) {
+    if let Some((page, next)) = link {
+        put(
+            bytes,
+            page.saturating_mul(4096) as usize,
+            &small(next).to_be_bytes(),
+        );
     }
 }

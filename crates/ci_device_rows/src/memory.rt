@@ -1,20 +1,35 @@
 //! Disks in memory, and what a stop may leave of them.
 
 use crate::script::{Said, call};
+use crate::table::{Table, unmet};
 use ci_base::{OutOfMemory, Text8};
 use ci_device::{Disk, MemoryDisk, Pick, SureMemoryDisk};
 use std::alloc::{AllocError, Global};
-use std::process::Abort;
 use std::test::Fail;
 
-struct Row {
-    name: &'static str,
-    bytes: &'static str,
-    fails: &'static [u64],
-    stop: u64,
+// The bytes of a disk, the call that is to fail and the one behind which it stops, where there are
+// such calls, and its room.
+#[derive(Clone, Copy)]
+struct Made<'a> {
+    bytes: &'a str,
+    failing: Option<u64>,
+    stop: Option<u64>,
     room: usize,
-    script: &'static str,
-    said: &'static str,
+}
+
+// How a disk is made, and the script.
+fn row_of(given: &str) -> Option<(Made<'_>, &str)> {
+    let (bytes, rest) = given.split_once(" | ")?;
+    let (failing, rest) = rest.split_once(" | ")?;
+    let (stop, rest) = rest.split_once(" | ")?;
+    let (room, script) = rest.split_once(" | ")?;
+    let made = Made {
+        bytes,
+        failing: failing.parse::<u64>().ok(),
+        stop: stop.parse::<u64>().ok(),
+        room: room.parse::<usize>().ok()?,
+    };
+    Some((made, script))
 }
 
 // Bytes as a text, a byte 0 as a dot.
@@ -26,7 +41,7 @@ fn shown(alloc: Global, bytes: &[u8]) -> Result<String, AllocError> {
     Ok(text)
 }
 
-fn told(alloc: Global, said: Said) -> Result<String, AllocError> {
+fn said_of(alloc: Global, said: Said) -> Result<String, AllocError> {
     match said {
         Said::Ok => String::from_str(alloc, "ok"),
         Said::Failed => String::from_str(alloc, "failed"),
@@ -45,163 +60,119 @@ fn picked(line: &str) -> Option<Pick> {
     }
 }
 
-fn play_line(alloc: Global, disk: &mut MemoryDisk, line: &str) -> Result<String, OutOfMemory> {
-    match picked(line) {
-        Some(pick) => Ok(shown(alloc, disk.left(alloc, pick)?.items())?),
-        None => Ok(told(alloc, call(disk, line))?),
+// A disk that tells what a stop may leave of it.
+trait Leaving: Disk {
+    fn image(&self, alloc: Global, pick: Pick) -> Result<Text8, OutOfMemory>;
+}
+
+impl Leaving for MemoryDisk {
+    fn image(&self, alloc: Global, pick: Pick) -> Result<Text8, OutOfMemory> {
+        self.left(alloc, pick)
     }
 }
 
-fn play_sure(alloc: Global, disk: &mut SureMemoryDisk, line: &str) -> Result<String, OutOfMemory> {
-    match picked(line) {
-        Some(pick) => Ok(shown(alloc, disk.left(alloc, pick)?.items())?),
-        None => Ok(told(alloc, call(disk, line))?),
+impl Leaving for SureMemoryDisk {
+    fn image(&self, alloc: Global, pick: Pick) -> Result<Text8, OutOfMemory> {
+        self.left(alloc, pick)
     }
 }
 
-fn made(alloc: Global, row: &Row) -> Result<MemoryDisk, OutOfMemory> {
-    let bytes = Text8::of(alloc, row.bytes.as_bytes())?;
-    let fails = Vec::from_slice(alloc, row.fails)?;
-    MemoryDisk::new(alloc, bytes, fails, row.stop, row.room)
+fn play_line<D: Leaving>(alloc: Global, disk: &mut D, line: &str) -> Result<String, OutOfMemory> {
+    match picked(line) {
+        Some(pick) => Ok(shown(alloc, disk.image(alloc, pick)?.items())?),
+        None => Ok(said_of(alloc, call(disk, line))?),
+    }
 }
 
-fn made_sure(alloc: Global, row: &Row) -> Result<SureMemoryDisk, OutOfMemory> {
-    let bytes = Text8::of(alloc, row.bytes.as_bytes())?;
-    SureMemoryDisk::new(alloc, bytes, row.room)
-}
-
-fn joined(said: &mut String, line: &str) -> Result<(), OutOfMemory> {
-    said.push_str(line)?;
-    said.push_str("; ")?;
+fn play<D: Leaving>(
+    alloc: Global,
+    said: &mut String,
+    disk: &mut D,
+    script: &str,
+) -> Result<(), OutOfMemory> {
+    for line in script.split("; ") {
+        said.push_str(play_line(alloc, disk, line)?.as_str())?;
+        said.push(';')?;
+    }
     Ok(())
 }
 
-// What the script says over a disk in memory with the row's failing calls.
-fn played(alloc: Global, row: &Row) -> Result<String, OutOfMemory> {
-    let mut disk = made(alloc, row)?;
-    let mut said = String::new(alloc);
-    for line in row.script.split("; ") {
-        let answer = play_line(alloc, &mut disk, line)?;
-        joined(&mut said, answer.as_str())?;
+fn failing_calls(alloc: Global, call: Option<u64>) -> Result<Vec<u64>, OutOfMemory> {
+    match call {
+        Some(call) => Ok(Vec::from_slice(alloc, &[call])?),
+        None => Ok(Vec::new(alloc)),
     }
-    Ok(said)
+}
+
+fn disk_of(alloc: Global, made: Made<'_>) -> Result<MemoryDisk, OutOfMemory> {
+    let bytes = Text8::of(alloc, made.bytes.as_bytes())?;
+    let fails = failing_calls(alloc, made.failing)?;
+    MemoryDisk::new(
+        alloc,
+        bytes,
+        fails,
+        made.stop.unwrap_or(u64::MAX),
+        made.room,
+    )
+}
+
+fn sure_disk_of(alloc: Global, made: Made<'_>) -> Result<SureMemoryDisk, OutOfMemory> {
+    SureMemoryDisk::new(alloc, Text8::of(alloc, made.bytes.as_bytes())?, made.room)
+}
+
+// What a row's script says over a disk in memory. A row has the bytes of the disk, the call that
+// fails and the one behind which it stops, a dash for none, the room, and the script.
+struct Scripts;
+
+impl Table for Scripts {
+    fn told(alloc: Global, given: &str) -> Result<String, Fail> {
+        let (made, script) = row_of(given).ok_or("a row")?;
+        let mut disk = disk_of(alloc, made)?;
+        let mut said = String::new(alloc);
+        play(alloc, &mut said, &mut disk, script)?;
+        Ok(said)
+    }
 }
 
 // The same over a disk that has no such calls.
-fn played_sure(alloc: Global, row: &Row) -> Result<String, OutOfMemory> {
-    let mut disk = made_sure(alloc, row)?;
-    let mut said = String::new(alloc);
-    for line in row.script.split("; ") {
-        let answer = play_sure(alloc, &mut disk, line)?;
-        joined(&mut said, answer.as_str())?;
+struct SureScripts;
+
+impl Table for SureScripts {
+    fn told(alloc: Global, given: &str) -> Result<String, Fail> {
+        let (made, script) = row_of(given).ok_or("a row")?;
+        let mut disk = sure_disk_of(alloc, made)?;
+        let mut said = String::new(alloc);
+        play(alloc, &mut said, &mut disk, script)?;
+        Ok(said)
     }
-    Ok(said)
 }
 
-const LAST: u64 = u64::MAX;
+// As written; what a stop leaves between two syncs; behind the end; room for the calls, and for the
+// bytes; calls that are no calls.
+const ROWS: &str = "\
+abc | - | - | 4096 | length; read 0 3; write 1 XY; read 0 3; read 1 1; sync; length => 3;abc;ok;aXY;X;ok;3;
+abc | - | - | 4096 | old; new; filled; write 1 XY; old; new; filled; sync; old; new; filled => abc;abc;abc;ok;abc;aXY;a##;ok;aXY;aXY;aXY;
+abc | - | - | 4096 | write 5 z; length; read 0 6; old; filled; write 1 Q; old; filled; sync; old => ok;6;abc..z;abc;abc###;ok;abc;a#c###;ok;aQc..z;
+abc | - | - | 97 | length; write 0 X; sync; length; new => 3;ok;ok;failed;Xbc;
+abc | - | - | 70 | write 69 ab; length; write 0 abcdefg; write 0 abcdef; new => failed;3;failed;ok;abcdef;
+abc | - | - | 4096 | read 2 2; write 1073741823 ab; jump; new => wrong;wrong;wrong;abc;";
 
-const ROWS: [Row; 9] = [
-    Row {
-        name: "as written",
-        bytes: "abc",
-        fails: &[],
-        stop: LAST,
-        room: 4096,
-        script: "length; read 0 3; write 1 XY; read 0 3; read 1 1; sync; length",
-        said: "3; abc; ok; aXY; X; ok; 3; ",
-    },
-    Row {
-        name: "what a stop leaves between two syncs",
-        bytes: "abc",
-        fails: &[],
-        stop: LAST,
-        room: 4096,
-        script: "old; new; filled; write 1 XY; old; new; filled; sync; old; new; filled",
-        said: "abc; abc; abc; ok; abc; aXY; a##; ok; aXY; aXY; aXY; ",
-    },
-    Row {
-        name: "behind the end",
-        bytes: "abc",
-        fails: &[],
-        stop: LAST,
-        room: 4096,
-        script: "write 5 z; length; read 0 6; old; filled; write 1 Q; old; filled; sync; old",
-        said: "ok; 6; abc..z; abc; abc###; ok; abc; a#c###; ok; aQc..z; ",
-    },
-    Row {
-        name: "a write that fails leaves its range unsynced",
-        bytes: "abc",
-        fails: &[0],
-        stop: LAST,
-        room: 4096,
-        script: "write 0 X; read 0 3; old; new; filled; sync; filled",
-        said: "failed; abc; abc; abc; #bc; ok; abc; ",
-    },
-    Row {
-        name: "a sync that fails leaves what was unsynced",
-        bytes: "abc",
-        fails: &[1],
-        stop: LAST,
-        room: 4096,
-        script: "write 2 Z; sync; old; new; filled; sync; old",
-        said: "ok; failed; abc; abZ; ab#; ok; abZ; ",
-    },
-    Row {
-        name: "every call behind the stop",
-        bytes: "abc",
-        fails: &[],
-        stop: 2,
-        room: 4096,
-        script: "write 0 X; sync; write 1 Y; sync; length; read 0 1; old; new; filled",
-        said: "ok; ok; failed; failed; failed; failed; Xbc; Xbc; X#c; ",
-    },
-    Row {
-        name: "room for the calls",
-        bytes: "abc",
-        fails: &[],
-        stop: LAST,
-        room: 97,
-        script: "length; write 0 X; sync; length; new",
-        said: "3; ok; ok; failed; Xbc; ",
-    },
-    Row {
-        name: "room for the bytes",
-        bytes: "abc",
-        fails: &[],
-        stop: LAST,
-        room: 70,
-        script: "write 69 ab; length; write 0 abcdefg; write 0 abcdef; new",
-        said: "failed; 3; failed; ok; abcdef; ",
-    },
-    Row {
-        name: "calls that are no calls",
-        bytes: "abc",
-        fails: &[],
-        stop: LAST,
-        room: 4096,
-        script: "read 2 2; write 1073741823 ab; jump; new",
-        said: "wrong; wrong; wrong; abc; ",
-    },
-];
+// A write that fails leaves its range unsynced; a sync that fails leaves what was unsynced; every
+// call behind the stop.
+const FAILING: &str = "\
+abc | 0 | - | 4096 | write 0 X; read 0 3; old; new; filled; sync; filled => failed;abc;abc;abc;#bc;ok;abc;
+abc | 1 | - | 4096 | write 2 Z; sync; old; new; filled; sync; old => ok;failed;abc;abZ;ab#;ok;abZ;
+abc | - | 2 | 4096 | write 0 X; sync; write 1 Y; sync; length; read 0 1; old; new; filled => ok;ok;failed;failed;failed;failed;Xbc;Xbc;X#c;";
 
 #[test]
-fn rows_of_scripts(rt: HostRuntime) -> Result<(), Fail> {
-    let alloc = rt.alloc();
-    for row in &ROWS {
-        let said = played(alloc, row)?;
-        assert_eq!(rt; said.as_str(), row.said, "{}", row.name);
-    }
+fn scripts_on_a_disk_in_memory(rt: HostRuntime) -> Result<(), Fail> {
+    assert_eq!(rt; unmet::<Scripts>(rt.alloc(), ROWS)?.as_str(), "");
+    assert_eq!(rt; unmet::<Scripts>(rt.alloc(), FAILING)?.as_str(), "");
     Ok(())
 }
 
 #[test]
-fn rows_without_failing_calls(rt: HostRuntime) -> Result<(), Fail> {
-    let alloc = rt.alloc();
-    for row in &ROWS {
-        if row.fails.is_empty() && row.stop == LAST {
-            let said = played_sure(alloc, row)?;
-            assert_eq!(rt; said.as_str(), row.said, "{}", row.name);
-        }
-    }
+fn scripts_on_a_disk_that_fails_for_want_of_room_alone(rt: HostRuntime) -> Result<(), Fail> {
+    assert_eq!(rt; unmet::<SureScripts>(rt.alloc(), ROWS)?.as_str(), "");
     Ok(())
 }

@@ -1,56 +1,130 @@
-//! A new volume, a commit and a patch, with a stop or a fault at each call.
+//! A new volume and a commit, with a stop or a fault at each call.
 
 use crate::volumes::{
-    LOG_BYTES, LOG_PAGE, chain_of, committed, created, disk_of, new_image, root_of, sure_disk,
+    Trouble, committed, created, disk_with, new_image, said_of, sure_disk, was_never,
 };
 use ci_base::{OutOfMemory, Text8};
 use ci_device::{MemoryDisk, Pick};
-use ci_volume::Volume;
 use std::alloc::Global;
-use std::process::Abort;
 use std::test::Fail;
 
-const PICKS: [Pick; 4] = [Pick::Old, Pick::New, Pick::Filled(0x5A), Pick::Filled(0)];
+/// What a stop may leave: what was synced, what reads, and fillings of what is between.
+pub(crate) const PICKS: [Pick; 4] = [Pick::Old, Pick::New, Pick::Filled(0x5A), Pick::Filled(0)];
 
-const FIRST: &str = "1: an empty catalogue's root";
+// What a picked image opens to: its root and its log.
+pub(crate) fn left_said(
+    alloc: Global,
+    disk: &MemoryDisk,
+    pick: Pick,
+) -> Result<String, OutOfMemory> {
+    Ok(said_of(alloc, sure_disk(alloc, disk.left(alloc, pick)?)?)?)
+}
 
-const SECOND: &str = "2: the second root";
+// A call that goes from what one image says to what another says.
+trait Going {
+    /// What an image says before the call, and behind it.
+    fn says() -> (&'static str, &'static str);
 
-const THIRD: &str = "3: the third root";
+    // The call over an image, and whether it was acknowledged.
+    fn go(alloc: Global, image: &[u8], trouble: Trouble) -> Result<(bool, MemoryDisk), OutOfMemory>;
+}
 
-const ZEROS: &str = "65472";
-
-// Whether each picked image says one of two things of its root, and the second where it was
-// acknowledged; and whether its log has only zeros, unless it is fresh.
-fn says(
+// Whether a picked image says what stood before or what stands after, and this where the call was
+// acknowledged.
+fn is_either<G: Going>(
     alloc: Global,
     disk: &MemoryDisk,
     done: bool,
-    before: &str,
-    after: &str,
+    pick: Pick,
 ) -> Result<bool, OutOfMemory> {
-    let mut right = true;
+    let (before, after) = G::says();
+    let said = left_said(alloc, disk, pick)?;
+    if said.as_str() == after {
+        return Ok(true);
+    }
+    Ok(!done && said.as_str() == before && is_opened_or_fresh(alloc, disk, pick, before)?)
+}
+
+// An image that opens to nothing is to be fresh.
+fn is_opened_or_fresh(
+    alloc: Global,
+    disk: &MemoryDisk,
+    pick: Pick,
+    said: &str,
+) -> Result<bool, OutOfMemory> {
+    Ok(said != NOTHING || was_never(alloc, disk.left(alloc, pick)?)?)
+}
+
+fn is_right<G: Going>(alloc: Global, image: &[u8], trouble: Trouble) -> Result<bool, OutOfMemory> {
+    let (done, disk) = G::go(alloc, image, trouble)?;
     for pick in PICKS {
-        let root = root_of(alloc, sure_disk(alloc, disk.left(alloc, pick)?)?)?;
-        let root = root.as_str();
-        right = right && (root == after || (!done && root == before));
-        if root != "fresh" {
-            let log = chain_of(alloc, disk.left(alloc, pick)?, LOG_PAGE, LOG_BYTES)?;
-            right = right && log.as_str() == ZEROS;
+        if !is_either::<G>(alloc, &disk, done, pick)? {
+            return Ok(false);
         }
     }
-    Ok(right)
+    Ok(true)
 }
 
-// A new volume over these bytes, with a stop or a fault.
-fn founds(alloc: Global, bytes: &[u8], fails: &[u64], stop: u64) -> Result<bool, OutOfMemory> {
-    let (done, disk) = created(alloc, disk_of(alloc, bytes, fails, stop)?);
-    says(alloc, &disk, done, "fresh", FIRST)
+// The stops that leave anything else.
+fn wrong_stops<G: Going>(alloc: Global, image: &[u8]) -> Result<String, Fail> {
+    let mut found = String::new(alloc);
+    for call in 0..32 {
+        if !is_right::<G>(alloc, image, Trouble::Stop(call))? {
+            write!(found, "{call} ")?;
+        }
+    }
+    Ok(found)
 }
 
-fn is_founded(alloc: Global, bytes: &[u8], fails: &[u64], stop: u64) -> Result<bool, OutOfMemory> {
-    let (done, _disk) = created(alloc, disk_of(alloc, bytes, fails, stop)?);
+// The faults that do.
+fn wrong_faults<G: Going>(alloc: Global, image: &[u8]) -> Result<String, Fail> {
+    let mut found = String::new(alloc);
+    for call in 0..32 {
+        if !is_right::<G>(alloc, image, Trouble::Fault(call))? {
+            write!(found, "{call} ")?;
+        }
+    }
+    Ok(found)
+}
+
+fn is_done<G: Going>(alloc: Global, image: &[u8], trouble: Trouble) -> Result<bool, OutOfMemory> {
+    let (done, _disk) = G::go(alloc, image, trouble)?;
     Ok(done)
+}
+
+// The faults with which the call is acknowledged.
+fn acknowledged<G: Going>(alloc: Global, image: &[u8]) -> Result<String, Fail> {
+    let mut found = String::new(alloc);
+    for call in 0..32 {
+        if is_done::<G>(alloc, image, Trouble::Fault(call))? {
+            write!(found, "{call} ")?;
+        }
+    }
+    Ok(found)
+}
+
+const NOTHING: &str = "none";
+
+const FIRST: &str = "1: an empty catalogue's root; 65472";
+
+const SECOND: &str = "2: the second root; 65472";
+
+const THIRD: &str = "3: the third root; 65472";
+
+struct Creation;
+
+impl Going for Creation {
+    fn says() -> (&'static str, &'static str) {
+        (NOTHING, FIRST)
+    }
+
+    fn go(
+        alloc: Global,
+        image: &[u8],
+        trouble: Trouble,
+    ) -> Result<(bool, MemoryDisk), OutOfMemory> {
+        Ok(created(alloc, disk_with(alloc, image, trouble)?))
+    }
 }
 
 // No bytes, fewer than a head has, a head, and a head with more behind it.
@@ -64,12 +138,8 @@ const FRESH: [&[u8]; 5] = [
 
 #[test]
 fn a_stop_at_each_call_of_a_new_volume(rt: HostRuntime) -> Result<(), Fail> {
-    let alloc = rt.alloc();
     for bytes in FRESH {
-        for stop in 0..32 {
-            let right = founds(alloc, bytes, &[], stop)?;
-            assert!(rt; right, "a stop at {stop}");
-        }
+        assert_eq!(rt; wrong_stops::<Creation>(rt.alloc(), bytes)?.as_str(), "");
     }
     Ok(())
 }
@@ -77,60 +147,76 @@ fn a_stop_at_each_call_of_a_new_volume(rt: HostRuntime) -> Result<(), Fail> {
 #[test]
 fn a_fault_at_each_call_of_a_new_volume(rt: HostRuntime) -> Result<(), Fail> {
     let alloc = rt.alloc();
-    for call in 0..32 {
-        let right = founds(alloc, b"", &[call], u64::MAX)?;
-        assert!(rt; right, "a fault at {call}");
-        let done = is_founded(alloc, b"", &[call], u64::MAX)?;
-        assert_eq!(rt; done, call >= 27, "a fault at {call}");
-    }
+    assert_eq!(rt; wrong_faults::<Creation>(alloc, b"")?.as_str(), "");
+    assert_eq!(rt;
+        acknowledged::<Creation>(alloc, b"")?.as_str(),
+        "27 28 29 30 31 "
+    );
     Ok(())
 }
 
-// A commit with this root over an image.
-fn commit_over(
+fn commit_with(
     alloc: Global,
     image: &[u8],
     root: &[u8],
-    fails: &[u64],
-    stop: u64,
+    trouble: Trouble,
 ) -> Result<(bool, MemoryDisk), OutOfMemory> {
-    let disk = disk_of(alloc, image, fails, stop)?;
+    let disk = disk_with(alloc, image, trouble)?;
     Ok(committed(alloc, disk, Text8::of(alloc, root)?))
 }
 
 // The first commit of a volume, whose second gate is shut.
-fn commits(alloc: Global, image: &[u8], fails: &[u64], stop: u64) -> Result<bool, OutOfMemory> {
-    let (done, disk) = commit_over(alloc, image, b"the second root", fails, stop)?;
-    says(alloc, &disk, done, FIRST, SECOND)
+struct FirstCommit;
+
+impl Going for FirstCommit {
+    fn says() -> (&'static str, &'static str) {
+        (FIRST, SECOND)
+    }
+
+    fn go(
+        alloc: Global,
+        image: &[u8],
+        trouble: Trouble,
+    ) -> Result<(bool, MemoryDisk), OutOfMemory> {
+        commit_with(alloc, image, b"the second root", trouble)
+    }
 }
 
 // The one behind it, in which both gates are open.
-fn goes_on(alloc: Global, image: &[u8], fails: &[u64], stop: u64) -> Result<bool, OutOfMemory> {
-    let (done, disk) = commit_over(alloc, image, b"the third root", fails, stop)?;
-    says(alloc, &disk, done, SECOND, THIRD)
+struct NextCommit;
+
+impl Going for NextCommit {
+    fn says() -> (&'static str, &'static str) {
+        (SECOND, THIRD)
+    }
+
+    fn go(
+        alloc: Global,
+        image: &[u8],
+        trouble: Trouble,
+    ) -> Result<(bool, MemoryDisk), OutOfMemory> {
+        commit_with(alloc, image, b"the third root", trouble)
+    }
 }
 
 fn second_image(alloc: Global, image: &[u8]) -> Result<Text8, OutOfMemory> {
-    let (_, disk) = commit_over(alloc, image, b"the second root", &[], u64::MAX)?;
+    let (_, disk) = FirstCommit::go(alloc, image, Trouble::Never)?;
     disk.left(alloc, Pick::New)
-}
-
-fn is_committed(alloc: Global, image: &[u8], fails: &[u64]) -> Result<bool, OutOfMemory> {
-    let (done, _disk) = commit_over(alloc, image, b"the second root", fails, u64::MAX)?;
-    Ok(done)
 }
 
 #[test]
 fn a_stop_at_each_call_of_a_commit(rt: HostRuntime) -> Result<(), Fail> {
     let alloc = rt.alloc();
     let first = new_image(alloc)?;
+    assert_eq!(rt;
+        wrong_stops::<FirstCommit>(alloc, first.items())?.as_str(),
+        ""
+    );
     let second = second_image(alloc, first.items())?;
-    for stop in 0..32 {
-        let right = commits(alloc, first.items(), &[], stop)?;
-        assert!(rt; right, "a stop at {stop}");
-        let right = goes_on(alloc, second.items(), &[], stop)?;
-        assert!(rt; right, "a stop at {stop} of the next");
-    }
+    assert_eq!(rt;
+        wrong_stops::<NextCommit>(alloc, second.items())?.as_str(),
+        ""
+    );
     Ok(())
 }
 
@@ -139,77 +225,18 @@ fn a_stop_at_each_call_of_a_commit(rt: HostRuntime) -> Result<(), Fail> {
 fn a_fault_at_each_call_of_a_commit(rt: HostRuntime) -> Result<(), Fail> {
     let alloc = rt.alloc();
     let first = new_image(alloc)?;
+    assert_eq!(rt;
+        wrong_faults::<FirstCommit>(alloc, first.items())?.as_str(),
+        ""
+    );
+    assert_eq!(rt;
+        acknowledged::<FirstCommit>(alloc, first.items())?.as_str(),
+        "29 30 31 "
+    );
     let second = second_image(alloc, first.items())?;
-    for call in 0..32 {
-        let right = commits(alloc, first.items(), &[call], u64::MAX)?;
-        assert!(rt; right, "a fault at {call}");
-        let right = goes_on(alloc, second.items(), &[call], u64::MAX)?;
-        assert!(rt; right, "a fault at {call} of the next");
-        let done = is_committed(alloc, first.items(), &[call])?;
-        assert_eq!(rt; done, call >= 29, "a fault at {call}");
-    }
-    Ok(())
-}
-
-// Two bytes over the root of a new volume, and whether that was stable.
-fn patched(alloc: Global, disk: MemoryDisk) -> (bool, MemoryDisk) {
-    match Volume::open(alloc, disk) {
-        Err(no) => (false, no.disk),
-        Ok(volume) => {
-            let mut volume = volume;
-            let done = match volume.root_pages().first() {
-                None => false,
-                Some(page) => {
-                    let page = *page;
-                    volume.patch(page, 2, b"XY").is_ok() && volume.sync().is_ok()
-                }
-            };
-            (done, volume.into_disk())
-        }
-    }
-}
-
-// What each picked image says of its root, behind a stop in the patch.
-fn patch_says(alloc: Global, image: &[u8], stop: u64) -> Result<String, OutOfMemory> {
-    let (_, disk) = patched(alloc, disk_of(alloc, image, &[], stop)?);
-    let mut said = String::new(alloc);
-    for pick in [Pick::Old, Pick::New, Pick::Filled(b'#')] {
-        let root = root_of(alloc, sure_disk(alloc, disk.left(alloc, pick)?)?)?;
-        said.push_str(root.as_str())?;
-        said.push_str("; ")?;
-        let log = chain_of(alloc, disk.left(alloc, pick)?, LOG_PAGE, LOG_BYTES)?;
-        said.push_str(log.as_str())?;
-        said.push_str("; ")?;
-    }
-    Ok(said)
-}
-
-const UNTOUCHED: &str = "1: an empty catalogue's root; 65472; 1: an empty catalogue's root; 65472; \
-    1: an empty catalogue's root; 65472; ";
-
-const FAILED: &str = "1: an empty catalogue's root; 65472; 1: an empty catalogue's root; 65472; \
-    1: an##mpty catalogue's root; 65472; ";
-
-const TORN: &str = "1: an empty catalogue's root; 65472; 1: anXYmpty catalogue's root; 65472; \
-    1: an##mpty catalogue's root; 65472; ";
-
-const PATCHED: &str = "1: anXYmpty catalogue's root; 65472; 1: anXYmpty catalogue's root; 65472; \
-    1: anXYmpty catalogue's root; 65472; ";
-
-// Opening makes 6 calls, the patch one, and the sync one.
-#[test]
-fn a_stop_at_each_call_of_a_patch(rt: HostRuntime) -> Result<(), Fail> {
-    let alloc = rt.alloc();
-    let image = new_image(alloc)?;
-    for stop in 0..10 {
-        let wanted = match stop {
-            0..=5 => UNTOUCHED,
-            6 => FAILED,
-            7 => TORN,
-            _ => PATCHED,
-        };
-        let said = patch_says(alloc, image.items(), stop)?;
-        assert_eq!(rt; said.as_str(), wanted, "a stop at {stop}");
-    }
+    assert_eq!(rt;
+        wrong_faults::<NextCommit>(alloc, second.items())?.as_str(),
+        ""
+    );
     Ok(())
 }

@@ -1,6 +1,6 @@
 //! A volume in a real file.
 
-use crate::volumes::{committed, created, root_of};
+use crate::volumes::{committed, created, said_of};
 use ci_base::{Text, Text8};
 use ci_device::FileDisk;
 use std::alloc::Global;
@@ -23,9 +23,9 @@ fn a_file_keeps_a_volume(rt: HostRuntime) -> Result<(), Fail> {
     let alloc = rt.alloc();
     let _ = fs::remove_file(&rt, PATH);
     let done = written(&rt, alloc)?;
-    let said = root_of(alloc, FileDisk::new(&rt, Text::of(alloc, PATH)?))?;
+    let said = said_of(alloc, FileDisk::new(&rt, Text::of(alloc, PATH)?))?;
     fs::remove_file(&rt, PATH)?;
     assert!(rt; done);
-    assert_eq!(rt; said.as_str(), "2: in a file");
+    assert_eq!(rt; said.as_str(), "2: in a file; 65472");
     Ok(())
 }

@@ -7,3 +7,6 @@ pub mod Opening
 pub mod Runs
 pub mod Steps
 pub mod Volumes
+pub use Rattle.ci_pages.specs.Tables
+pub use Rattle.ci_pages.specs.Uses
+pub use Rattle.ci_pages.specs.declared.page_use.PageUse

@@ -71,6 +71,29 @@ fn open_volume<D: Disk>(disk: &mut D, plan: Plan) -> Result<(), Failed>
     Ok(())
 }
 
+// All that a new volume has behind its slots.
+fn lay_volume<D: Disk>(disk: &mut D, buffer: &mut [u8], plan: Plan) -> Result<(), Failed>
+    requires size { length buffer.old ≡ 4096 }
+    requires once { IsOnce plan.root_pages.now × IsOnce plan.log.now }
+    requires fresh { IsTrue (D.honest disk.old) → IsFresh (D.seen disk.old) }
+    // A stop at any moment leaves a fresh image.
+    ensures any_moment { IsTrue (D.honest disk.old) → EachLeft (D.may_leave disk.old) IsFresh
+        → LeavesOnly D.moment D.left_since disk.old disk.new IsFresh }
+    ensures blank { OnOk result (IsTrue (D.honest disk.old)
+        → EachLeft (D.may_leave disk.new) IsBlank) }
+    ensures root { OnOk result (IsTrue (D.honest disk.old)
+        → IsRun (D.seen disk.new) plan.entry.root_pages.now plan.entry.root.now) }
+    ensures log { OnOk result (IsTrue (D.honest disk.old)
+        → IsRun (D.seen disk.new) plan.entry.log.now []) }
+    ensures honest { D.honest disk.new ≡ D.honest disk.old }
+    ensures cause { HasCause (D.faults disk.old) (D.faults disk.new) result }
+    ensures buffer { length buffer.new ≡ 4096 }
+{
+    write_head(disk)?;
+    lay_chains(disk, buffer, plan)?;
+    Ok(())
+}
+
 // All writes of a new volume.
 fn write_volume<D: Disk>(disk: &mut D, buffer: &mut [u8], plan: Plan) -> Result<(), Failed>
     requires size { length buffer.old ≡ 4096 }
@@ -90,8 +113,7 @@ fn write_volume<D: Disk>(disk: &mut D, buffer: &mut [u8], plan: Plan) -> Result<
     ensures cause { HasCause (D.faults disk.old) (D.faults disk.new) result }
     ensures buffer { length buffer.new ≡ 4096 }
 {
-    write_head(disk)?;
-    lay_chains(disk, buffer, plan)?;
+    lay_volume(disk, buffer, plan)?;
     open_volume(disk, plan)?;
     Ok(())
 }
