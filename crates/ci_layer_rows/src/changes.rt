@@ -1,9 +1,9 @@
 //! What is pending, in order, and what is out in a batch.
 
-ghost use Rattle.std.specs.Prelude.{◌<◌, All, IfOk};
+ghost use Rattle.std.specs.Prelude.{◌<◌, All, IfOk, OnOk};
 
 use crate::notices::{noted, path};
-use crate::table::{Table, unmet};
+use crate::table::{Table, all_hold};
 use ci_base::{PathText, Seq};
 use ci_change::{Batch, ChangeList, Docs, What};
 use std::alloc::Global;
@@ -72,8 +72,7 @@ fn serve(
 ) -> Result<(), Fail> {
     let path = path(alloc, name)?;
     list.served(&path, Seq(seq))?;
-    write!(told, "{} ", list.served_of(&path).0)?;
-    Ok(())
+    Ok(write!(told, "{} ", list.served_of(&path).0)?)
 }
 
 #[test]
@@ -86,31 +85,28 @@ fn the_latest_notices_are_pending_by_path(rt: HostRuntime) -> Result<(), Fail> {
 /d/a.txt 4;/d/a.txt 2 => 4 4 +/c.txt 3|-/d/b.txt 2|
 /d/a.txt 4;/d/a.txt 2;/d/a.txt 9 => 4 4 9 +/c.txt 3|-/d/b.txt 2|
 /e 6 => 6 +/c.txt 3|+/d/a.txt 4|-/d/b.txt 2|";
-    assert_eq!(rt; unmet::<Served>(rt.alloc(), ROWS)?.as_str(), "");
-    Ok(())
+    all_hold::<Served>(rt.alloc(), ROWS)
 }
 
 // What is pending where a path was served under 9 and then noted with the number 5.
 fn noted_late(alloc: Global) -> Result<String, Fail> {
     let path = path(alloc, "/d/a.txt")?;
-    let list = noted(
-        served_under(three(alloc)?, &path, 9)?,
-        &path,
-        5,
-        What::Changed,
-    )?;
+    let mut list = three(alloc)?;
+    serve_under(&mut list, &path, 9)?;
+    pending_of(alloc, &noted(list, &path, 5, What::Changed)?)
+}
+
+fn pending_of(alloc: Global, list: &ChangeList) -> Result<String, Fail> {
     let mut told = String::new(alloc);
-    pending(&mut told, &list)?;
+    pending(&mut told, list)?;
     Ok(told)
 }
 
-fn served_under(list: ChangeList, path: &PathText, seq: u64) -> Result<ChangeList, Fail>
-    requires { All (λ n. n.seq.0 < 5) list.notices }
-    ensures { IfOk result (λ list. All (λ n. n.seq.0 < 5) list.notices) }
+fn serve_under(list: &mut ChangeList, path: &PathText, seq: u64) -> Result<(), Fail>
+    requires { All (λ n. n.seq.0 < 5) list.old.notices }
+    ensures { OnOk result (All (λ n. n.seq.0 < 5) list.new.notices) }
 {
-    let mut list = list;
-    list.served(path, Seq(seq))?;
-    Ok(list)
+    Ok(list.served(path, Seq(seq))?)
 }
 
 #[test]
@@ -167,8 +163,7 @@ fn batches_take_the_first_free_ones(rt: HostRuntime) -> Result<(), Fail> {
 1 5 5 => 7: 3|7: 4|7:|
 1! 1! => 7: 3|7: 3|
 16 => 7: 3 4|";
-    assert_eq!(rt; unmet::<Taken>(rt.alloc(), ROWS)?.as_str(), "");
-    Ok(())
+    all_hold::<Taken>(rt.alloc(), ROWS)
 }
 
 // Two documents, from a copy, and as a `Vec`.

@@ -2,7 +2,7 @@
 
 use crate::notices::{noted, path};
 use ci_base::{DocNo, PathText, Seq};
-use ci_change::{ChangeList, What};
+use ci_change::{Batch, ChangeList, What};
 use ci_paths::Numbers;
 use std::alloc::Global;
 use std::test::Fail;
@@ -19,36 +19,43 @@ fn shown(alloc: Global, numbers: &Numbers) -> Result<String, Fail> {
 
 // Three paths, of which the first was taken over.
 fn some_numbers(alloc: Global) -> Result<Numbers, Fail> {
-    numbered(alloc, numbered(alloc, adopted(alloc)?, "/b")?, "/a")
+    let mut numbers = Numbers::new(alloc, 4);
+    adopt(alloc, &mut numbers)?;
+    number_two(alloc, &mut numbers)?;
+    Ok(numbers)
 }
 
-fn adopted(alloc: Global) -> Result<Numbers, Fail> {
+fn adopt(alloc: Global, numbers: &mut Numbers) -> Result<(), Fail> {
     let path = path(alloc, "/c")?;
-    let mut numbers = Numbers::new(alloc, 4);
     match numbers.adopt(DocNo(2), &path) {
-        Ok(()) => Ok(numbers),
+        Ok(()) => Ok(()),
         Err(_) => Err("a free number".into()),
     }
 }
 
-fn numbered(alloc: Global, numbers: Numbers, name: &str) -> Result<Numbers, Fail> {
+fn number_two(alloc: Global, numbers: &mut Numbers) -> Result<(), Fail> {
+    number(alloc, numbers, "/b")?;
+    number(alloc, numbers, "/a")
+}
+
+fn number(alloc: Global, numbers: &mut Numbers, name: &str) -> Result<(), Fail> {
     let path = path(alloc, name)?;
-    let mut numbers = numbers;
     match numbers.number(&path) {
-        Ok(_) => Ok(numbers),
+        Ok(_) => Ok(()),
         Err(_) => Err("a number".into()),
     }
 }
 
 // The numbers behind one more path, in the list itself or in its copy; and those of the other.
 fn shown_both(alloc: Global, copies: bool) -> Result<String, Fail> {
-    let numbers = some_numbers(alloc)?;
-    let copy = numbers.copy(alloc)?;
+    let mut numbers = some_numbers(alloc)?;
+    let mut copy = numbers.copy(alloc)?;
     if copies {
-        both(alloc, &numbers, &numbered(alloc, copy, "/d")?)
+        number(alloc, &mut copy, "/d")?;
     } else {
-        both(alloc, &numbered(alloc, numbers, "/d")?, &copy)
+        number(alloc, &mut numbers, "/d")?;
     }
+    both(alloc, &numbers, &copy)
 }
 
 fn both(alloc: Global, one: &Numbers, other: &Numbers) -> Result<String, Fail> {
@@ -71,7 +78,11 @@ fn pending(told: &mut String, list: &mut ChangeList, batch: u64) -> Result<(), F
         write!(told, "{} {} ", notice.path.as_str(), notice.seq.0)?;
     }
     told.push_str("out")?;
-    for doc in list.take_batch(batch, 2)?.docs.items() {
+    out(told, &list.take_batch(batch, 2)?)
+}
+
+fn out(told: &mut String, batch: &Batch) -> Result<(), Fail> {
+    for doc in batch.docs.items() {
         write!(told, " {}", doc.0.as_str())?;
     }
     Ok(told.push('|')?)
@@ -79,28 +90,33 @@ fn pending(told: &mut String, list: &mut ChangeList, batch: u64) -> Result<(), F
 
 // Three notices, of which one is served and one is out.
 fn some_changes(alloc: Global) -> Result<ChangeList, Fail> {
+    let mut list = three_changes(alloc)?;
+    serve(&mut list, &path(alloc, "/a")?, 2)?;
+    begin(&mut list)?;
+    Ok(list)
+}
+
+fn three_changes(alloc: Global) -> Result<ChangeList, Fail> {
     let (a, c, d) = (path(alloc, "/a")?, path(alloc, "/c")?, path(alloc, "/d")?);
     let list = noted(ChangeList::new(alloc, 4), &c, 1, What::Changed)?;
     let list = noted(list, &a, 2, What::Changed)?;
-    let list = noted(list, &d, 3, What::Changed)?;
-    begun(served(list, &a, 2)?)
+    noted(list, &d, 3, What::Changed)
 }
 
-fn served(list: ChangeList, path: &PathText, seq: u64) -> Result<ChangeList, Fail> {
-    let mut list = list;
-    list.served(path, Seq(seq))?;
-    Ok(list)
+fn serve(list: &mut ChangeList, path: &PathText, seq: u64) -> Result<(), Fail> {
+    Ok(list.served(path, Seq(seq))?)
 }
 
-fn begun(list: ChangeList) -> Result<ChangeList, Fail> {
-    let mut list = list;
+fn begin(list: &mut ChangeList) -> Result<(), Fail> {
     let _first = list.take_batch(1, 1)?;
-    Ok(list)
+    Ok(())
 }
 
 // A copy of the list, in which one path more is served.
 fn copied(alloc: Global, list: &ChangeList) -> Result<ChangeList, Fail> {
-    served(list.copy(alloc)?, &path(alloc, "/c")?, 1)
+    let mut copy = list.copy(alloc)?;
+    serve(&mut copy, &path(alloc, "/c")?, 1)?;
+    Ok(copy)
 }
 
 // What is pending in a list, and then in its copy.

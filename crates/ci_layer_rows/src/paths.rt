@@ -1,6 +1,6 @@
 //! Prefixes that hold paths, and the numbers of paths.
 
-use crate::table::{Table, unmet};
+use crate::table::{Table, all_hold};
 use ci_base::{DocNo, PathText};
 use ci_paths::{Numbers, Prefix};
 use std::alloc::Global;
@@ -42,8 +42,7 @@ d; /d => no prefix
 /d/; /d => no prefix
 /d/../e; /d => no prefix
 /.; /d => no prefix";
-    assert_eq!(rt; unmet::<Holds>(rt.alloc(), ROWS)?.as_str(), "");
-    Ok(())
+    all_hold::<Holds>(rt.alloc(), ROWS)
 }
 
 // A number is taken over, where one is given, and else asked for.
@@ -114,8 +113,7 @@ fn paths_get_numbers(rt: HostRuntime) -> Result<(), Fail> {
 10: 1=/b 3=/e /a /c /d /a /b /e => 1 3 0 2 4 0 1 3 5 Some(2) /c
 2: /a /b /c /a => 0 1 - 0 2 None none
 0: 262143=/a 0=/b 0=/b 0=/a 1=/b 0=/c 1=/c => 262143 0 0 - - - 1 3 Some(1) none";
-    assert_eq!(rt; unmet::<Given>(rt.alloc(), ROWS)?.as_str(), "");
-    Ok(())
+    all_hold::<Given>(rt.alloc(), ROWS)
 }
 
 // What two paths get where there may be one, then three, and then none.

@@ -1,28 +1,29 @@
 //! Copies of trees equal them, and lists of places are handed in and out.
 
-use crate::show::show;
-use crate::table::{Table, unmet};
+use crate::show::{shown, tree};
+use crate::table::{Table, all_hold, whether};
 use ci_base::Text;
-use ci_query::{Restriction, Slot, Slots, parse};
-use ci_words::NoiseList;
+use ci_query::{QueryFault, Restriction, Slot, Slots};
+use sqlite_items::Boxed;
 use std::alloc::Global;
 use std::test::Fail;
 
-fn tree(alloc: Global, text: &str) -> Result<Restriction, Fail> {
-    Ok(parse(alloc, text, &NoiseList::standard(alloc)?)?)
+fn copy_of(alloc: Global, tree: &Restriction) -> Result<Boxed<Restriction>, QueryFault> {
+    Ok(Boxed::new(alloc, tree.copy(alloc)?)?)
 }
 
-fn shown(alloc: Global, tree: &Restriction) -> Result<String, Fail> {
-    let mut out = String::new(alloc);
-    show(&mut out, tree)?;
-    Ok(out)
+fn copy_shown(alloc: Global, tree: &Restriction) -> Result<String, Fail> {
+    shown(alloc, copy_of(alloc, tree)?.get())
 }
 
 /// Whether the copy of a text's tree is shown as the tree is.
 pub(crate) fn is_copied(alloc: Global, text: &str) -> Result<bool, Fail> {
-    let one = tree(alloc, text)?;
-    let copy = shown(alloc, &one.copy(alloc)?)?;
-    Ok(shown(alloc, &one)?.as_str() == copy.as_str())
+    is_shown_alike(alloc, tree(alloc, text)?.get())
+}
+
+fn is_shown_alike(alloc: Global, tree: &Restriction) -> Result<bool, Fail> {
+    let told = shown(alloc, tree)?;
+    Ok(copy_shown(alloc, tree)?.as_str() == told.as_str())
 }
 
 // Rows of queries.
@@ -31,7 +32,7 @@ struct Copied;
 impl Table for Copied {
     fn told(alloc: Global, given: &str) -> Result<String, Fail> {
         let same = is_copied(alloc, given)?;
-        Ok(format!(in alloc; "{same}")?)
+        whether(alloc, same)
     }
 }
 
@@ -48,8 +49,7 @@ red ~ king of hearts ~ re* => true
 #scope / => true
 #scope /d/e => true
 red & !(blue | green) & black => true";
-    assert_eq!(rt; unmet::<Copied>(rt.alloc(), ROWS)?.as_str(), "");
-    Ok(())
+    all_hold::<Copied>(rt.alloc(), ROWS)
 }
 
 // A word and an open place.

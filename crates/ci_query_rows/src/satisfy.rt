@@ -1,13 +1,14 @@
 //! Documents and the queries that they satisfy.
 
-use crate::table::{Table, unmet};
+use crate::entries::entry_read;
+use crate::show::tree;
+use crate::table::{Table, all_hold, whether};
 use ci_base::{PathText, PropNo, Text};
 use ci_chunk::Transcript;
-use ci_entry::entry_of;
 use ci_keys::Entry;
-use ci_query::{Restriction, parse};
+use ci_query::Restriction;
 use ci_restrict::satisfies;
-use ci_words::NoiseList;
+use sqlite_items::Boxed;
 use std::alloc::Global;
 use std::test::Fail;
 
@@ -25,15 +26,12 @@ fn is_satisfied(
 
 // The entry of a plain text.
 fn plain_entry(alloc: Global, path: &PathText, text: &str) -> Result<Entry, Fail> {
-    let transcript = Transcript::plain(alloc, path, text)?;
-    let noise = NoiseList::standard(alloc)?;
-    Ok(entry_of(alloc, &transcript, &noise)?)
+    entry_read(alloc, &Transcript::plain(alloc, path, text)?)
 }
 
 /// Whether it satisfies a query.
 pub(crate) fn holds(alloc: Global, path: &str, text: &str, query: &str) -> Result<bool, Fail> {
-    let restriction = parse(alloc, query, &NoiseList::standard(alloc)?)?;
-    is_satisfied(alloc, &restriction, path, text)
+    is_satisfied(alloc, tree(alloc, query)?.get(), path, text)
 }
 
 // Rows of a path, a text and a query.
@@ -44,7 +42,7 @@ impl Table for Satisfies {
         let (path, rest) = given.split_once("; ").ok_or("a path")?;
         let (text, query) = rest.split_once("; ").ok_or("a text")?;
         let held = holds(alloc, path, text, query)?;
-        Ok(format!(in alloc; "{held}")?)
+        whether(alloc, held)
     }
 }
 
@@ -74,8 +72,7 @@ fn documents_satisfy_these_queries(rt: HostRuntime) -> Result<(), Fail> {
 /d/a.txt; red dog; #scope /d => true
 /d/a.txt; red dog; #scope /d/a => false
 /d/a.txt; ; fox => false";
-    assert_eq!(rt; unmet::<Satisfies>(rt.alloc(), ROWS)?.as_str(), "");
-    Ok(())
+    all_hold::<Satisfies>(rt.alloc(), ROWS)
 }
 
 #[test]
@@ -91,8 +88,7 @@ fn patterns_match_file_names(rt: HostRuntime) -> Result<(), Fail> {
 /d/Straße; red; #Filename *ß? => true
 /d/A; red; #Filename a => false
 /d/?; red; #Filename ? => true";
-    assert_eq!(rt; unmet::<Satisfies>(rt.alloc(), ROWS)?.as_str(), "");
-    Ok(())
+    all_hold::<Satisfies>(rt.alloc(), ROWS)
 }
 
 // Whether two words with so many others between are near each other.
@@ -116,12 +112,16 @@ fn near_is_within_fifty_places(rt: HostRuntime) -> Result<(), Fail> {
 
 // Whether a document of this text has the word fox, by a restriction that no text was read for.
 fn has_fox(alloc: Global, text: &str) -> Result<bool, Fail> {
+    is_satisfied(alloc, fox(alloc)?.get(), "/d/a.txt", text)
+}
+
+fn fox(alloc: Global) -> Result<Boxed<Restriction>, Fail> {
     let fox = Restriction::Content {
         property: PropNo(1),
         word: Text::of(alloc, "fox")?,
         prefix: false,
     };
-    is_satisfied(alloc, &fox, "/d/a.txt", text)
+    Ok(Boxed::new(alloc, fox)?)
 }
 
 #[test]

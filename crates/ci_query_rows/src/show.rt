@@ -6,13 +6,27 @@ use ci_paths::Prefix;
 use ci_props::Relation;
 use ci_query::{QueryFault, QueryKind, Restriction, Slot, parse};
 use ci_words::NoiseList;
+use sqlite_items::Boxed;
 use std::alloc::Global;
 use std::test::Fail;
 
-/// The tree of a text, or its first fault, under the standard noise words.
-pub(crate) fn read(alloc: Global, text: &str) -> Result<String, Fail> {
+/// The tree of a text under the standard noise words. Trees stand in boxes here, which let them go in
+/// one step.
+pub(crate) fn tree(alloc: Global, text: &str) -> Result<Boxed<Restriction>, QueryFault> {
     let noise = NoiseList::standard(alloc)?;
-    shown(alloc, &parse(alloc, text, &noise))
+    parsed(alloc, text, &noise)
+}
+
+fn parsed(alloc: Global, text: &str, noise: &NoiseList) -> Result<Boxed<Restriction>, QueryFault> {
+    Ok(Boxed::new(alloc, parse(alloc, text, noise)?)?)
+}
+
+/// The tree of a text, or its first fault.
+pub(crate) fn read(alloc: Global, text: &str) -> Result<String, Fail> {
+    match tree(alloc, text) {
+        Ok(tree) => shown(alloc, tree.get()),
+        Err(fault) => fault_shown(alloc, &fault),
+    }
 }
 
 /// Rows of queries.
@@ -24,17 +38,18 @@ impl Table for Readings {
     }
 }
 
-// The tree, or the fault with its place.
-fn shown(alloc: Global, read: &Result<Restriction, QueryFault>) -> Result<String, Fail> {
+pub(crate) fn shown(alloc: Global, tree: &Restriction) -> Result<String, Fail> {
     let mut out = String::new(alloc);
-    match read {
-        Ok(tree) => show(&mut out, tree)?,
-        Err(fault) => match fault.met() {
-            Some((kind, at)) => write!(out, "{} {at}", kind_name(kind))?,
-            None => out.push_str("OutOfMemory")?,
-        },
-    }
+    show(&mut out, tree)?;
     Ok(out)
+}
+
+// A fault with its place.
+fn fault_shown(alloc: Global, fault: &QueryFault) -> Result<String, Fail> {
+    match fault.met() {
+        Some((kind, at)) => Ok(format!(in alloc; "{} {at}", kind_name(kind))?),
+        None => Ok(String::from_str(alloc, "OutOfMemory")?),
+    }
 }
 
 fn kind_name(kind: QueryKind) -> &'static str {
@@ -60,7 +75,7 @@ fn sign(relation: Relation) -> &'static str {
 }
 
 #[cycle(show)]
-pub(crate) fn show(out: &mut String, tree: &Restriction) -> Result<(), Fail> {
+fn show(out: &mut String, tree: &Restriction) -> Result<(), Fail> {
     match tree {
         Restriction::Content {
             property,

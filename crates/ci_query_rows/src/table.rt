@@ -9,15 +9,38 @@ pub(crate) trait Table {
     fn told(alloc: Global, given: &str) -> Result<String, Fail>;
 }
 
-/// Those of the rows that don't hold, each with what is told in place of what is wanted.
-pub(crate) fn unmet<T: Table>(alloc: Global, rows: &str) -> Result<String, Fail> {
-    let mut found = String::new(alloc);
-    for row in rows.lines() {
-        let (given, wanted) = row.split_once(" => ").ok_or("a row")?;
-        let told = T::told(alloc, given)?;
-        if told.as_str() != wanted {
-            write!(found, "{row}, but {}\n", told.as_str())?;
-        }
+/// Fails with those of the rows that don't hold, each with what is told in place of what is wanted.
+pub(crate) fn all_hold<T: Table>(alloc: Global, rows: &str) -> Result<(), Fail> {
+    let unmet = unmet::<T>(alloc, rows)?;
+    if unmet.as_str().is_empty() {
+        Ok(())
+    } else {
+        Err(unmet.as_str().into())
     }
-    Ok(found)
+}
+
+fn unmet<T: Table>(alloc: Global, rows: &str) -> Result<String, Fail> {
+    let mut unmet = String::new(alloc);
+    for row in rows.lines() {
+        add_unmet::<T>(alloc, &mut unmet, row)?;
+    }
+    Ok(unmet)
+}
+
+fn add_unmet<T: Table>(alloc: Global, unmet: &mut String, row: &str) -> Result<(), Fail> {
+    let (given, wanted) = row.split_once(" => ").ok_or("a row")?;
+    let told = T::told(alloc, given)?;
+    add_other(unmet, row, told.as_str(), wanted)
+}
+
+fn add_other(unmet: &mut String, row: &str, told: &str, wanted: &str) -> Result<(), Fail> {
+    if told != wanted {
+        write!(unmet, "{row}, but {told}\n")?;
+    }
+    Ok(())
+}
+
+/// What is told of what holds or doesn't.
+pub(crate) fn whether(alloc: Global, holds: bool) -> Result<String, Fail> {
+    Ok(String::from_str(alloc, if holds { "true" } else { "false" })?)
 }

@@ -70,14 +70,15 @@ fn tell(told: &mut String, piece: &Piece) -> Result<(), Fail> {
 }
 
 fn tell_chunk(told: &mut String, chunk: &StatChunk) -> Result<(), Fail> {
-    let place = (chunk.locale, chunk.start, chunk.length);
-    write!(
-        told,
-        "{} {} {:?} ",
-        chunk.id, chunk.source, chunk.break_type
-    )?;
-    write!(told, "{:?} {} {place:?} ", chunk.state, chunk.property.0)?;
-    Ok(())
+    write!(told, "{} {} ", chunk.id, chunk.source)?;
+    write!(told, "{:?} {:?} ", chunk.break_type, chunk.state)?;
+    tell_place(told, chunk)
+}
+
+fn tell_place(told: &mut String, chunk: &StatChunk) -> Result<(), Fail> {
+    let (locale, start, length) = (chunk.locale, chunk.start, chunk.length);
+    write!(told, "{} ", chunk.property.0)?;
+    Ok(write!(told, "({locale}, {start}, {length}) ")?)
 }
 
 #[test]

@@ -1,6 +1,6 @@
 //! Keys and properties.
 
-use crate::table::{Table, unmet};
+use crate::table::{Table, all_hold, whether};
 use ci_base::{PropNo, Text};
 use ci_keys::Key;
 use ci_props::{Kind, kind_of, named};
@@ -22,7 +22,7 @@ impl Table for Before {
     fn told(alloc: Global, given: &str) -> Result<String, Fail> {
         let (one, other) = given.split_once("; ").ok_or("two keys")?;
         let before = key(alloc, one)? < key(alloc, other)?.copy(alloc)?;
-        Ok(format!(in alloc; "{before}")?)
+        whether(alloc, before)
     }
 }
 
@@ -33,8 +33,7 @@ fn keys_are_in_order_by_property_first(rt: HostRuntime) -> Result<(), Fail> {
 2 ant; 1 zebra => false
 1 a; 1 ab => true
 1 a; 1 a => false";
-    assert_eq!(rt; unmet::<Before>(rt.alloc(), ROWS)?.as_str(), "");
-    Ok(())
+    all_hold::<Before>(rt.alloc(), ROWS)
 }
 
 // Rows of names: the number of the property and its kind.
@@ -58,7 +57,7 @@ DocTitle => Some(5) Some(Some(Str))
 dockeywords => Some(8) Some(Some(Str))
 Keywords => None None
 \x20=> None None";
-    assert_eq!(rt; unmet::<Named>(rt.alloc(), ROWS)?.as_str(), "");
+    all_hold::<Named>(rt.alloc(), ROWS)?;
     assert_eq!(rt; kind_of(PropNo(9)), Some(Kind::Str));
     assert_eq!(rt; kind_of(PropNo(0)), None);
     assert_eq!(rt; kind_of(PropNo(10)), None);

@@ -1,6 +1,6 @@
 //! How values compare, and which texts match a pattern.
 
-use crate::table::{Table, unmet};
+use crate::table::{Table, all_hold, whether};
 use ci_base::{Text, Value};
 use ci_props::{Relation, compare, matches_pattern};
 use std::alloc::Global;
@@ -13,7 +13,7 @@ impl Table for Matched {
     fn told(alloc: Global, given: &str) -> Result<String, Fail> {
         let (pattern, text) = given.split_once(';').ok_or("a text")?;
         let found = matches_pattern(pattern, text);
-        Ok(format!(in alloc; "{found}")?)
+        whether(alloc, found)
     }
 }
 
@@ -36,8 +36,7 @@ a*b*c;aXcYb => false
 *ß?;Straße => true
 a?c;a*c => true
 A;a => false";
-    assert_eq!(rt; unmet::<Matched>(rt.alloc(), ROWS)?.as_str(), "");
-    Ok(())
+    all_hold::<Matched>(rt.alloc(), ROWS)
 }
 
 // How two texts stand to each other, also as values of two kinds, which don't.
@@ -97,7 +96,7 @@ red = blue => Some(false) true
 blue != red => Some(true) true
 red != red => Some(false) true
 red != blue => Some(true) true";
-    assert_eq!(rt; unmet::<Compared>(rt.alloc(), ROWS)?.as_str(), "");
+    all_hold::<Compared>(rt.alloc(), ROWS)?;
     assert_eq!(rt;
         compare(Relation::Lt, &Value::Int(-5), &Value::Int(4)),
         Some(true)

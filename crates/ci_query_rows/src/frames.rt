@@ -22,17 +22,35 @@ fn tell_frames(
     rest: &[u8],
     frame: &Frame,
 ) -> Result<(), Fail> {
-    let mut frames = fed(Frames::new(alloc)?, front)?;
-    tell_next(told, &mut frames, frame)?;
-    let mut frames = fed(frames, rest)?.copy(alloc)?;
-    tell_next(told, &mut frames, frame)?;
-    tell_next(told, &mut frames, frame)
+    let mut frames = Frames::new(alloc)?;
+    tell_front(told, &mut frames, front, frame)?;
+    tell_rest(alloc, told, &mut frames, rest, frame)
 }
 
-fn fed(frames: Frames, bytes: &[u8]) -> Result<Frames, Fail> {
-    let mut frames = frames;
+fn tell_front(
+    told: &mut String,
+    frames: &mut Frames,
+    bytes: &[u8],
+    frame: &Frame,
+) -> Result<(), Fail> {
     frames.feed(bytes)?;
-    Ok(frames)
+    tell_next(told, frames, frame)
+}
+
+fn tell_rest(
+    alloc: Global,
+    told: &mut String,
+    frames: &mut Frames,
+    bytes: &[u8],
+    frame: &Frame,
+) -> Result<(), Fail> {
+    frames.feed(bytes)?;
+    tell_two(told, &mut frames.copy(alloc)?, frame)
+}
+
+fn tell_two(told: &mut String, frames: &mut Frames, frame: &Frame) -> Result<(), Fail> {
+    tell_next(told, frames, frame)?;
+    tell_next(told, frames, frame)
 }
 
 fn tell_next(told: &mut String, frames: &mut Frames, frame: &Frame) -> Result<(), Fail> {
@@ -59,8 +77,16 @@ fn comes_whole(alloc: Global, spelling: &[u8], frame: &Frame) -> Result<bool, Fa
 }
 
 fn is_call(alloc: Global, call: Call, spelling: &[u8]) -> Result<bool, Fail> {
-    let same = encode_call(alloc, &call)?.items() == spelling && call.copy(alloc)? == call;
+    let same = is_spelled(alloc, &call, spelling)? && is_call_copied(alloc, &call)?;
     Ok(same && comes_whole(alloc, spelling, &Frame::Call(call))?)
+}
+
+fn is_spelled(alloc: Global, call: &Call, spelling: &[u8]) -> Result<bool, Fail> {
+    Ok(encode_call(alloc, call)?.items() == spelling)
+}
+
+fn is_call_copied(alloc: Global, call: &Call) -> Result<bool, Fail> {
+    Ok(call.copy(alloc)? == *call)
 }
 
 // Whether an answer has these bytes, which are also its frame's.
@@ -145,15 +171,20 @@ fn answers_are_spelled_and_read_in_any_cutting(rt: HostRuntime) -> Result<(), Fa
     Ok(())
 }
 
-// What some bytes are read as, and a frame behind them. A frame's copy equals it.
+fn is_frame_copied(alloc: Global, frame: &Frame) -> Result<bool, Fail> {
+    Ok(frame.copy(alloc)? == *frame)
+}
+
+// What some bytes are read as, and a frame behind them.
 fn refused(alloc: Global, bytes: &[u8]) -> Result<String, Fail> {
-    let frame = Frame::Call(Call::GetChunk);
-    if frame.copy(alloc)? != frame {
-        return Err("a copy equals its frame".into());
-    }
     let mut all = Vec::from_slice(alloc, bytes)?;
     all.extend_from_slice(b"\x01\x02")?;
-    read(alloc, all.as_slice(), bytes.len(), &frame)
+    read(
+        alloc,
+        all.as_slice(),
+        bytes.len(),
+        &Frame::Call(Call::GetChunk),
+    )
 }
 
 #[test]
@@ -177,5 +208,6 @@ fn other_bytes_are_no_frame(rt: HostRuntime) -> Result<(), Fail> {
     for (bytes, wanted) in rows {
         assert_eq!(rt; refused(rt.alloc(), bytes)?.as_str(), wanted);
     }
+    assert!(rt; is_frame_copied(rt.alloc(), &Frame::Call(Call::GetChunk))?);
     Ok(())
 }
