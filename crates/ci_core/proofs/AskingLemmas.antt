@@ -4,7 +4,7 @@ use Rattle.std.specs.FinMap.{entries}
 use Rattle.ci_journal.specs.declared.event.Event.{Event}
 use Rattle.ci_journal.specs.declared.event.Happened.TheVariants.{Asked, Opened}
 use Rattle.ci_journal.specs.declared.request.Request.{Request}
-use Rattle.ci_journal.specs.Bytes.{journal_bytes}
+use Rattle.ci_journal.specs.Bytes.{capped, event_bytes, journal_bytes}
 use Rattle.ci_journal.specs.Filings.{Filings}
 use Rattle.ci_journal.specs.Folds.{requests_in, is_opened, is_replied, reply_numbers}
 use Rattle.ci_journal.specs.Queries.{IsFirstWaiting}
@@ -17,14 +17,14 @@ use Rattle.ci_journal.proofs.FoldsLemmas.{filings-push, is_opened-push, is_repli
 use Rattle.ci_journal.proofs.RunLemmas.{unopened_above, unreplied_above}
 use Rattle.ci_core.specs.declared.question.Question.{Question}
 use Rattle.ci_core.specs.declared.waiting.Waiting.{Waiting}
-use Rattle.ci_core.specs.Changes.{Adds, Stays}
+use Rattle.ci_core.specs.Changes.{Adds, IsReady, Puts}
 use Rattle.ci_core.specs.Core.{Core}
 use Rattle.ci_core.specs.Kept.{IsHolding, Shelf}
 use Rattle.ci_core.specs.Opening.{Opens}
 use Rattle.ci_core.specs.Sheet.{Sheet}
 use Rattle.ci_core.specs.Steps.{Told}
 use Rattle.ci_core.specs.Waiting.{IsQueue}
-use Rattle.ci_core.proofs.ChangesLemmas.{Adds-prepared}
+use Rattle.ci_core.proofs.ChangesLemmas.{Adds-prepared, fits-one}
 use Rattle.ci_core.proofs.QueueLemmas.{IsQueue-first}
 
 at_most_one : {X : Type 0} (o : Option X) → length (option_to_list o) ≤ 1
@@ -62,20 +62,20 @@ none-first [] none = refl
 none-first (w ∷ rest) none = absurd (cc)
 
 -- what opening the first query that waits gives
-pub opens-first : (before after : Core) (shelf : Shelf) → IsHolding before.terms before.sheet shelf → (ready : Sheet) (by : ℕ) (first : Waiting) (rest : List Waiting) (question : Question) → Told before after → after.numbered ≡ before.numbered
-    → Stays before.sheet ready → shelf.waiting ≡ first ∷ rest → Adds ready after.sheet (event by (Opened first.id))
-    → question.id ≡ first.id → question.tree ≡ first.tree → question.at ≡ length after.sheet.events → question.plain ≡ entries (live_map before.terms before.sheet.events) → Opens before after by question
-opens-first before after shelf kept ready by first rest question told same stays front adds id_is tree_is at_is plain_is =
+pub opens-first : (before after : Core) (shelf : Shelf) → IsHolding before.terms before.sheet shelf → (ready : Sheet) (by places counted : ℕ) (first : Waiting) (rest : List Waiting) (question : Question) → Told before after → after.numbered ≡ before.numbered
+    → counted ≡ capped (event_bytes (Opened first.id)) → IsReady before.sheet ready places counted → shelf.waiting ≡ first ∷ rest → Puts ready after.sheet (event by (Opened first.id))
+    → question.id ≡ first.id → question.tree ≡ first.tree → question.at ≡ length before.sheet.events + 1 → question.plain ≡ entries (live_map before.terms before.sheet.events) → Opens before after by question
+opens-first before after shelf kept ready by places counted first rest question told same counts fits front puts id_is tree_is at_is plain_is =
     let old = before.sheet in
     let new = after.sheet in
     let queue : IsQueue before.terms old.events (first ∷ rest) = subst (IsQueue before.terms old.events) front kept.waits in
     let shown : IsFirstWaiting before.terms old.events first.id first.tree = IsQueue-first before.terms old.events first rest queue in
-    let whole : Adds old new (event by (Opened question.id)) = subst (λ n. Adds old new (event by (Opened n))) (sym id_is) (Adds-prepared old ready new (event by (Opened first.id)) stays adds) in
+    let whole : Adds old new (event by (Opened question.id) ∷ []) = subst (λ n. Adds old new (event by (Opened n) ∷ [])) (sym id_is) (Adds-prepared old ready new (event by (Opened first.id) ∷ []) fits.stays puts.adds) in
     let map_same : live_map before.terms new.events ≡ live_map before.terms old.events =
     ap (live_map before.terms) whole.events ∙ ap (λ (f : Filings). (served_by before.terms f.filed).documents) (filings-push old.events (event by (Opened question.id))) in
     record {
-      makes = record { adds = whole; told = told; numbered = same };
+      makes = record { adds = whole; within = fits-one old ready new places counted (event by (Opened first.id)) kept.small counts fits puts.adds; told = told; numbered = same };
       first = subst (λ n. IsFirstWaiting before.terms old.events n question.tree) (sym id_is) (subst (λ t. IsFirstWaiting before.terms old.events first.id t) (sym tree_is) shown);
-      at = at_is;
+      at = at_is ∙ sym (ap length whole.events ∙ length-append old.events (event by (Opened question.id) ∷ []));
       plain = plain_is ∙ ap entries (sym map_same);
     }

@@ -1,5 +1,5 @@
 -- What a catalogue keeps as a batch is begun, and as one is finished.
-use Rattle.std.proofs.Common.{arith, All, Bool, Contains, IsTrue, ◌||◌, ◌≡◌, ◌≢◌, true, ◌∙◌, ◌==◌, ℕ, ◌+◌, List, [], ◌∷◌, ◌++◌, length, map, refl, ap, sym, subst, append-nil, append_assoc, filter, if◌then◌else◌, false, take}
+use Rattle.std.proofs.Common.{arith, All, Bool, Contains, IsTrue, ◌||◌, ◌≡◌, ◌≢◌, true, ◌∙◌, ◌==◌, ℕ, ◌+◌, ◌-◌, List, [], ◌∷◌, ◌++◌, length, map, refl, ap, sym, subst, append-nil, append_assoc, length-append, filter, if◌then◌else◌, false, take}
 use Rattle.std.proofs.lemmas.Bool.Decides.{nat_tests}
 use Rattle.std.proofs.lemmas.List.Elements.{All-append, All-weaker, filter_map-append}
 use Rattle.std.proofs.lemmas.List.Sums.{fold-append}
@@ -7,25 +7,30 @@ use Rattle.ci_base.specs.declared.numbers.Seq.{Seq}
 use Rattle.ci_change.specs.declared.batch.Batch.{Batch}
 use Rattle.ci_change.specs.HandedIn.{HandedIn, is_known, was_noted, was_served, with_batch, without_batch}
 use Rattle.ci_change.specs.Pending as change
-use Rattle.ci_journal.specs.declared.event.Happened.TheVariants.{Begun, BatchDone}
+use Rattle.ci_journal.specs.declared.event.Event.{Event}
+use Rattle.ci_journal.specs.Bytes.{capped, event_bytes}
+use Rattle.ci_journal.specs.declared.event.Happened.TheVariants.{Begun, BatchDone, Returned}
 use Rattle.ci_chunk.specs.declared.outcome.Outcome.{Outcome}
 use Rattle.ci_journal.specs.Filings.{batches, docs_out, fates, fates_at_end, out, without_number}
 use Rattle.ci_journal.specs.Folds.{notices}
 use Rattle.ci_journal.specs.Pending.{free}
 use Rattle.ci_journal.specs.Served.{number_of, numbers_of, serve, served_by}
-use Rattle.ci_journal.specs.Step.{MayFinish}
+use Rattle.ci_journal.specs.Step.{MayEnd, MayFinish}
 use Rattle.ci_journal.specs.Tells.{Filing, event}
 use Rattle.ci_journal.specs.Tells.Ending.{Through}
 use Rattle.ci_journal.specs.Terms.{Served, Terms, found_served}
 use Rattle.ci_core.specs.Batches.{CanFinish, IsNextBatch}
-use Rattle.ci_core.specs.Changes.{Adds, Stays}
+use Rattle.ci_core.specs.Book.{IsWithin}
+use Rattle.ci_core.specs.Changes.{IsReady, Puts}
 use Rattle.ci_core.specs.Kept.{IsHolding, Shelf}
 use Rattle.ci_core.specs.Serving.{AreServed, IsDone, entry_from, is_served, serve_entries}
 use Rattle.ci_core.specs.Sheet.{Sheet}
 use Rattle.ci_documents.specs.Documents.{KeepsEntries, Standings, StandFor}
-use Rattle.ci_core.proofs.KeptLemmas.{Follows, IsHolding-adds}
+use Rattle.ci_core.proofs.KeptLemmas.{Follows, IsHolding-adds, IsHolding-follows}
+use Rattle.ci_core.proofs.OpenLemmas.{AreOpen-later}
+use Rattle.ci_core.proofs.WithinLemmas.{IsWithin-end, fewer-out}
 use Rattle.ci_core.proofs.QueueLemmas.{IsQueue-silent}
-use Rattle.ci_core.proofs.OutLemmas.{docs_noted, docs_out-is, out_ascends, without_last}
+use Rattle.ci_core.proofs.OutLemmas.{docs_noted, docs_out-is, out-push, out_ascends, without_last}
 use Rattle.ci_core.proofs.ServedLemmas.{served_by-numbers}
 use Rattle.ci_core.proofs.ServingLemmas.{AreServed-outcomes, numbers-outcomes, served-outcomes}
 use Rattle.ci_core.proofs.StepLemmas.{no_shadow}
@@ -64,10 +69,10 @@ module _ (terms : Terms) (old : Sheet) (shelf : Shelf) (kept : IsHolding terms o
   }
 
   -- a batch was begun
-  pub begun-kept : (ready new : Sheet) (by max : ℕ) (batch : Batch) (after : HandedIn) → IsNextBatch terms old.events max batch → Stays old ready → after ≡ with_batch shelf.changes batch →
-      Adds ready new (event by (Begun batch)) → Kept new (record shelf { changes = after; begun = shelf.begun + 1 })
-  begun-kept ready new by max batch after next stays handed adds =
-      let after_begin : Shelf = record shelf { changes = after; begun = shelf.begun + 1 } in
+  pub begun-kept : (ready new : Sheet) (by max : ℕ) (batch : Batch) (after : HandedIn) → IsNextBatch terms old.events max batch → (counted : ℕ) → counted ≡ capped (event_bytes (Begun batch)) → IsReady old ready (shelf.places + 1) counted → after ≡ with_batch shelf.changes batch →
+      Puts ready new (event by (Begun batch)) → Kept new (record shelf { changes = after; begun = shelf.begun + 1; places = shelf.places + 1 })
+  begun-kept ready new by max batch after next counted counts fits handed puts =
+      let after_begin : Shelf = record shelf { changes = after; begun = shelf.begun + 1; places = shelf.places + 1 } in
       let follows : Follows terms old (event by (Begun batch)) shelf after_begin = record {
         may = record { next = next.number; some = next.some; most = max; first = next.docs };
         alone = refl;
@@ -76,6 +81,9 @@ module _ (terms : Terms) (old : Sheet) (shelf : Shelf) (kept : IsHolding terms o
         replies = omega arith;
         noted = omega arith;
         begun = omega arith;
+        places = omega (arith, kept.counts.places, length-append (out old.events) (batch ∷ []));
+        failed = refl;
+        opened = AreOpen-later terms old.events (event by (Begun batch)) shelf.questions refl kept.opened;
         waits = IsQueue-silent terms old.events (event by (Begun batch)) shelf.waiting refl refl kept.waits;
         marks = refl;
         notices = ap (λ (h : HandedIn). h.notices) handed ∙ sym (append-nil _);
@@ -83,7 +91,7 @@ module _ (terms : Terms) (old : Sheet) (shelf : Shelf) (kept : IsHolding terms o
         out = ap (λ (h : HandedIn). h.out) handed ∙ out_more shelf.changes.out batch batch.docs next.some ∙ ap (λ bs. bs ++ batch ∷ []) kept.tracks.out;
         stands = kept.stands;
       } in
-      IsHolding-adds terms old ready new _ shelf after_begin kept stays adds follows
+      IsHolding-adds terms old ready new (shelf.places + 1) counted _ shelf after_begin kept counts fits (omega arith) puts follows
 
   -- a batch that was taken and given back leaves the change list as it was
   pub given_back : (batch : Batch) → batch.docs ≢ [] → batch.number ≡ length (batches old.events) + 1 → without_batch (with_batch shelf.changes batch) batch.number ≡ shelf.changes
@@ -121,13 +129,17 @@ module _ (terms : Terms) (old : Sheet) (shelf : Shelf) (kept : IsHolding terms o
       (ap (λ ds. before ++ ds) (sym (ap numbers_of (filed_is by batch outcomes can) ∙ numbers-outcomes batch.docs outcomes done can.each))
       ∙ sym (filter_map-append number_of (fates old.events) (fates_at_end (docs_out (out old.events) batch.number) (Through outcomes))))
 
+  -- a batch that ends gives its place back
+  fewer : (batch : Batch) → Contains (out old.events) batch → shelf.places - 1 ≡ length (without_number (out old.events) batch.number) + 1
+  fewer batch here = omega (arith, kept.counts.places, fewer-out terms old.events batch kept.run here)
+
   -- a batch was finished
-  pub finished-kept : (ready new : Sheet) (by : ℕ) (batch : Batch) (outcomes : List Outcome) (served after : HandedIn) (mid documents : Standings) → CanFinish old.events by batch outcomes → All IsDone outcomes → Stays old ready → KeepsEntries shelf.documents mid →
+  pub finished-kept : (ready new : Sheet) (by : ℕ) (batch : Batch) (outcomes : List Outcome) (served after : HandedIn) (mid documents : Standings) → CanFinish old.events by batch outcomes → All IsDone outcomes → (counted : ℕ) → counted ≡ capped (event_bytes (BatchDone batch.number outcomes)) → IsReady old ready shelf.places counted → KeepsEntries shelf.documents mid →
       served ≡ record shelf.changes { served = shelf.changes.served ++ batch.docs } → after ≡ without_batch served batch.number →
       ((s : Served) → s.numbers ≡ shelf.changes.served → StandFor s.documents mid → StandFor (serve_entries s batch.docs (map (entry_from terms.noise) outcomes)).documents documents) →
-      Adds ready new (event by (BatchDone batch.number outcomes)) → Kept new (record shelf { documents = documents; changes = after })
-  finished-kept ready new by batch outcomes served after mid documents can done stays keeps handed given serves adds =
-      let after_finishing : Shelf = record shelf { documents = documents; changes = after } in
+      Puts ready new (event by (BatchDone batch.number outcomes)) → Kept new (record shelf { documents = documents; changes = after; places = shelf.places - 1 })
+  finished-kept ready new by batch outcomes served after mid documents can done counted counts fits keeps handed given serves puts =
+      let after_finishing : Shelf = record shelf { documents = documents; changes = after; places = shelf.places - 1 } in
       let may : MayFinish old.events by batch.number outcomes = (batch, record { is_out = can.is_out; numbered = refl; own = can.own }, can.each) in
       let follows : Follows terms old (event by (BatchDone batch.number outcomes)) shelf after_finishing = record {
         may = may;
@@ -138,6 +150,9 @@ module _ (terms : Terms) (old : Sheet) (shelf : Shelf) (kept : IsHolding terms o
         replies = omega arith;
         noted = omega arith;
         begun = omega arith;
+        places = fewer batch can.is_out;
+        failed = refl;
+        opened = AreOpen-later terms old.events (event by (BatchDone batch.number outcomes)) shelf.questions refl kept.opened;
         waits = IsQueue-silent terms old.events (event by (BatchDone batch.number outcomes)) shelf.waiting refl refl kept.waits;
         marks = refl;
         notices = ap (λ (h : HandedIn). h.notices) given ∙ ap (λ (h : HandedIn). h.notices) handed ∙ sym (append-nil _);
@@ -146,4 +161,32 @@ module _ (terms : Terms) (old : Sheet) (shelf : Shelf) (kept : IsHolding terms o
         stands = subst (λ (s : Served). StandFor s.documents documents) (sym (stands_behind by batch outcomes can done))
             (serves (served_by terms (fates old.events)) (served_by-numbers terms (fates old.events) ∙ sym kept.tracks.served) (λ path. kept.stands path ∙ sym (keeps.entries path)));
       } in
-      IsHolding-adds terms old ready new _ shelf after_finishing kept stays adds follows
+      IsHolding-adds terms old ready new shelf.places counted _ shelf after_finishing kept counts fits (omega arith) puts follows
+
+  -- a batch was given back
+  pub returned-kept : (new : Sheet) (by : ℕ) (batch : Batch) (after : HandedIn) → MayEnd old.events by batch.number batch → after ≡ without_batch shelf.changes batch.number → Puts old new (event by (Returned batch.number)) →
+      Kept new (record shelf { changes = after; places = shelf.places - 1 })
+  returned-kept new by batch after may given puts =
+      let after_returning : Shelf = record shelf { changes = after; places = shelf.places - 1 } in
+      let e : Event = event by (Returned batch.number) in
+      let follows : Follows terms old e shelf after_returning = record {
+        may = (batch, may);
+        alone = refl;
+        filed = subst AreServed (sym (append-nil (fates old.events))) kept.served;
+        requests = omega arith;
+        replies = omega arith;
+        noted = omega arith;
+        begun = omega arith;
+        places = fewer batch may.is_out;
+        failed = refl;
+        opened = AreOpen-later terms old.events e shelf.questions refl kept.opened;
+        waits = IsQueue-silent terms old.events e shelf.waiting refl refl kept.waits;
+        marks = refl;
+        notices = ap (λ (h : HandedIn). h.notices) given ∙ sym (append-nil _);
+        served = ap (λ (h : HandedIn). h.served) given ∙ kept.tracks.served ∙ ap (λ fs. terms.beginning.numbers ++ numbers_of fs) (sym (append-nil (fates old.events)));
+        out = ap (λ (h : HandedIn). h.out) given ∙ ap (λ bs. without_number bs batch.number) kept.tracks.out;
+        stands = subst (λ fs. StandFor (served_by terms fs).documents shelf.documents) (sym (append-nil (fates old.events))) kept.stands;
+      } in
+      IsHolding-follows terms old e shelf after_returning kept follows new puts.adds.events puts.adds.limit
+      (subst (λ n. IsWithin n (old.events ++ e ∷ [])) (sym puts.adds.limit) (IsWithin-end terms old.limit old.events batch e kept.run may.is_out refl (out-push old.events e) kept.within))
+      (omega (arith, kept.room, kept.counts.places, puts.spare, fewer-out terms old.events batch kept.run may.is_out))

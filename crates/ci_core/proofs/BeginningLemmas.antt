@@ -1,5 +1,5 @@
 -- What the catalogue keeps of beginning a batch.
-use Rattle.std.proofs.Common.{◌≡◌, ◌∙◌, ⊎_elim, inl, inr, ℕ, length, Option, Some, None, Ok, Err, refl, ap, sym, subst}
+use Rattle.std.proofs.Common.{[], ◌≡◌, ◌∙◌, ⊎_elim, inl, inr, ℕ, length, Option, Some, None, Ok, Err, refl, ap, sym, subst, append-nil}
 use Rattle.ci_change.specs.declared.batch.Batch.{Batch}
 use Rattle.ci_journal.specs.declared.event.Happened.{Happened}
 use Rattle.ci_journal.specs.declared.event.Happened.TheVariants.{Begun}
@@ -7,19 +7,26 @@ use Rattle.ci_journal.specs.Folds.{numbered_paths}
 use Rattle.ci_journal.specs.Tells.{event}
 use Rattle.ci_core.specs.declared.core_fault.CoreFault.{CoreFault}
 use Rattle.ci_core.specs.declared.refusal.Refusal.{Refusal}
-use Rattle.ci_core.specs.Batches.{Begins, HaltsBeginning, IsNextBatch, RefusesBeginning}
-use Rattle.ci_core.specs.Catalog.{IsCatalog}
+use Rattle.ci_core.specs.declared.core_fault.CoreFault.TheVariants.{OutOfMemory}
+use Rattle.ci_core.specs.Batches.{Begins, HaltsBeginning, IsNextBatch, RefusesBeginning, Starved}
+use Rattle.ci_core.specs.Catalog.{IsCatalog, IsCaused}
 use Rattle.ci_core.specs.Core.{Core}
 use Rattle.ci_core.specs.Fixed.{KeepsFixed, PrintsAfter}
 use Rattle.ci_core.specs.Refusal.{tried_at}
 use Rattle.ci_core.specs.Refusals.{Halts}
 use Rattle.ci_core.specs.Steps.{Makes}
-use Rattle.ci_core.proofs.CatalogLemmas.{IsCatalog-step, IsStep, KeepsFixed-step, Refuses-step, noted-now, prints-stays}
+use Rattle.ci_core.proofs.CatalogLemmas.{IsCatalog-step, IsMade, KeepsFixed-step, Refuses-step, caused-at, no_ends, noted-now, prints-stays}
 
 -- why no batch was begun, as it is told
 pub HaltsBeginning-of : (old new : Core) (by max : ℕ) (batch : Batch) (fault told_fault : CoreFault) (tried : Option Happened) → told_fault ≡ fault → tried ≡ tried_at fault (Begun batch)
     → IsNextBatch old.terms old.sheet.events max batch → Halts old new (event by (Begun batch)) fault → HaltsBeginning old new by max told_fault tried
 HaltsBeginning-of old new by max batch fault told_fault tried e f next halts = rw (e, f) (inr (batch, next, refl, halts))
+
+-- want of memory before it was known what would come
+caused-starved : (old made : Core) {refusal : Option Refusal} {by : ℕ} → Starved old made
+    → IsCaused (record made { refusal = refusal }) (record { by = by; at = length old.sheet.events; fault = OutOfMemory; tried = None })
+caused-starved old made {refusal} {by} starved =
+    caused-at (record made { refusal = refusal }) old.sheet.events [] by (length old.sheet.events) OutOfMemory None (starved.stays.events ∙ sym (append-nil old.sheet.events)) refl no_ends
 
 module _ (old made : Core) (earlier : Option Refusal) (by max : ℕ) (unrefused : earlier ≡ None) where
   abbrev held : Core
@@ -29,7 +36,7 @@ module _ (old made : Core) (earlier : Option Refusal) (by max : ℕ) (unrefused 
   abbrev refused_as : CoreFault → Option Happened → Option Refusal
   refused_as fault tried = Some (record { by = by; at = length old.sheet.events; fault = fault; tried = tried })
 
-  step-begun : (batch : Batch) → IsNextBatch old.terms old.sheet.events max batch → Makes old made (event by (Begun batch)) → IsStep {T = Batch} old made earlier (event by (Begun batch)) (Ok batch) earlier
+  step-begun : (batch : Batch) → IsNextBatch old.terms old.sheet.events max batch → Makes old made (event by (Begun batch)) → IsMade {T = Batch} old made earlier (event by (Begun batch)) (Ok batch) earlier
   step-begun batch next makes = record {
     unrefused = unrefused;
     may = record { next = next.number; some = next.some; most = max; first = next.docs };
@@ -40,7 +47,7 @@ module _ (old made : Core) (earlier : Option Refusal) (by max : ℕ) (unrefused 
   }
 
   step-refused : (batch : Batch) (fault : CoreFault) (tried : Option Happened) → IsNextBatch old.terms old.sheet.events max batch → tried ≡ tried_at fault (Begun batch) → Halts old made (event by (Begun batch)) fault
-      → IsStep {T = Batch} old made earlier (event by (Begun batch)) (Err fault) (refused_as fault tried)
+      → IsMade {T = Batch} old made earlier (event by (Begun batch)) (Err fault) (refused_as fault tried)
   step-refused batch fault tried next told halts = record {
     unrefused = unrefused;
     may = record { next = next.number; some = next.some; most = max; first = next.docs };
@@ -73,7 +80,7 @@ module _ (old made : Core) (earlier : Option Refusal) (by max : ℕ) (unrefused 
 
   pub Begins-held : (batch : Option Batch) → Begins old made by max batch → Begins held (record made { refusal = earlier }) by max batch
   Begins-held None begins = (begins.0, record { stays = begins.1.stays; told = record { terms = begins.1.told.terms; most = begins.1.told.most }; numbered = begins.1.numbered })
-  Begins-held (Some batch) begins = (begins.0, record { adds = begins.1.adds; told = record { terms = begins.1.told.terms; most = begins.1.told.most }; numbered = begins.1.numbered })
+  Begins-held (Some batch) begins = (begins.0, record { adds = begins.1.adds; within = begins.1.within; told = record { terms = begins.1.told.terms; most = begins.1.told.most }; numbered = begins.1.numbered })
 
   -- ---- no batch was begun
 
@@ -84,7 +91,7 @@ module _ (old made : Core) (earlier : Option Refusal) (by max : ℕ) (unrefused 
     pub IsCatalog-unbegun : IsCatalog held → IsCatalog after
     IsCatalog-unbegun catalog =
         ⊎_elim
-        (λ none. rw (none.0, none.1) (record { numbered = tt; cause = ap length (sym none.2.stays.events) }))
+        (λ none. rw (none.0, none.1) (record { numbered = tt; cause = caused-starved old made none.2 }))
         (λ full. IsCatalog-step {T = Batch} old made earlier (event by (Begun full.0)) (Err fault) (refused_as fault tried) (step-refused full.0 fault tried full.1 full.2 full.3) catalog)
         halts
 

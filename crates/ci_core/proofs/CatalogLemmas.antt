@@ -1,25 +1,28 @@
 -- What the catalogue keeps of a step, whose refusal is kept.
-use Rattle.std.proofs.Common.{arith, ◌≡◌, ◌∙◌, ⊎_elim, inl, inr, ℕ, ◌<◌, List, [], ◌∷◌, ◌++◌, length, take, fold, map, Option, Some, None, Result, Ok, Err, OnOk, IfOk, IfErr, option_to_list, refl, ap, sym, subst, length-append, append_assoc}
+use Rattle.std.proofs.Common.{arith, ◌≡◌, ◌∙◌, ⊎_elim, inl, inr, ℕ, ◌<◌, List, [], ◌∷◌, ◌++◌, length, drop, take, fold, map, Option, Some, None, Result, Ok, Err, OnOk, IfOk, IfErr, option_to_list, refl, ap, sym, subst, append-nil, length-append, append_assoc}
 use Rattle.std.specs.Io.KnownBytes.{Appends, Keeps}
-use Rattle.std.proofs.lemmas.List.{take-append-le, take_all}
+use Rattle.std.proofs.lemmas.Grind.{flat_map-append}
+use Rattle.std.proofs.lemmas.List.{map-append, take-append-le, take_all}
+use Rattle.std.proofs.lemmas.List.Sums.{fold-append}
 use Rattle.ci_io.specs.Causes.{Rose}
+use Rattle.ci_base.specs.declared.numbers.Seq.{Seq}
 use Rattle.ci_change.specs.declared.notice.Notice.{Notice}
 use Rattle.ci_journal.specs.declared.event.Event.{Event}
 use Rattle.ci_journal.specs.declared.event.Happened.{Happened}
 use Rattle.ci_journal.specs.declared.event.Happened.TheVariants.{Asked, Noted, Put, Erased, Started, StartFailed, DaemonLost, Begun, BatchDone, BatchDied, Returned, Shadowed, MasterBegun, MasterStep, MasterEnded, Opened, Answered, Said}
-use Rattle.ci_journal.specs.Printed.{lines_of, printed}
-use Rattle.ci_journal.specs.Bytes.{journal_bytes}
+use Rattle.ci_journal.specs.Printed.{AreEnds, lines_of, printed}
 use Rattle.ci_dialect.specs.declared.restriction.Restriction.{Restriction}
-use Rattle.ci_journal.specs.Folds.{numbered_paths, with_path}
+use Rattle.ci_journal.specs.Folds.{new_notices, notices, numbered_paths, with_path}
 use Rattle.ci_journal.specs.Queries.{IsFirstWaiting}
 use Rattle.ci_journal.specs.Step.{May}
-use Rattle.ci_journal.specs.Tells.{event, tells}
+use Rattle.ci_journal.specs.Tells.{Tells, event, tells}
 use Rattle.ci_journal.specs.Terms.{Terms}
-use Rattle.ci_journal.proofs.FoldsLemmas.{numbered_paths-push, printed-push, slice_get-push}
+use Rattle.ci_journal.proofs.FoldsLemmas.{new_notices-push}
+use Rattle.ci_journal.proofs.TellsLemmas.{tellings-append}
 use Rattle.ci_core.specs.declared.core_fault.CoreFault.{CoreFault}
 use Rattle.ci_core.specs.declared.core_fault.CoreFault.TheVariants.{TooManyDocuments, JournalFull, OutOfMemory, WriteFault, Ended}
 use Rattle.ci_core.specs.declared.refusal.Refusal.{Refusal}
-use Rattle.ci_core.specs.Catalog.{CausedBy, IsCatalog, NumbersAfter, NumbersNoted, NumbersUnless}
+use Rattle.ci_core.specs.Catalog.{CausedBy, IsCatalog, IsCaused, NumbersAfter, NumbersNoted, NumbersUnless}
 use Rattle.ci_core.specs.declared.question.Question.{Question}
 use Rattle.ci_core.specs.Changes.{Adds, Breaks, Stays}
 use Rattle.ci_core.specs.Core.{Core}
@@ -28,12 +31,12 @@ use Rattle.ci_core.specs.Refusal.{tried_at}
 use Rattle.ci_core.specs.Refusals.{Halts, IsCrowded, Refuses}
 use Rattle.ci_core.specs.Sheet.{Sheet}
 use Rattle.ci_core.specs.Opening.{OpensFirst, RefusesOpening}
-use Rattle.ci_core.specs.Steps.{Makes, Rests, Told, with_noted}
+use Rattle.ci_core.specs.Steps.{Makes, Rests, Told, numbered_behind, step_in}
 use Rattle.ci_core.proofs.HaltsLemmas.{Stays-refl, Told-refl}
 use Rattle.ci_core.proofs.QueueLemmas.{same_first}
 
 -- a step that adds an event was made or refused, and a refusal is kept
-pub record IsStep {T : Type 0} (before made : Core) (earlier : Option Refusal) (event : Event) (result : Result T CoreFault) (refusal : Option Refusal) : Type 0 where
+pub record IsMade {T : Type 0} (before made : Core) (earlier : Option Refusal) (event : Event) (result : Result T CoreFault) (refusal : Option Refusal) : Type 0 where
   pub unrefused : earlier ≡ None
   pub may : May before.terms before.sheet.events event.by event.what
   pub ok : OnOk result (Makes before made event)
@@ -49,18 +52,25 @@ told-as result refusal by at there tried what place same told =
     subst (λ (n : ℕ). IfErr result (λ fault. refusal ≡ Some (record { by = by; at = n; fault = fault; tried = tried_at fault what }))) place
     (subst (λ (w : Happened). IfErr result (λ fault. refusal ≡ Some (record { by = by; at = at; fault = fault; tried = tried_at fault w }))) same told)
 
--- what was made under the number that was answered
-pub made-as : {T : Type 0} (number : T → ℕ) (there : ℕ) (P : ℕ → Type 0) (result : Result T CoreFault) → IfOk result (λ x. number x ≡ there) → IfOk result (λ x. P (number x)) → OnOk result (P there)
-made-as number there P (Ok x) same made = subst P same made
-made-as number there P (Err fault) same made = tt
+-- the paths that are numbered behind a longer journal
+pub numbered_paths-append : (terms : Terms) (journal more : List Event) → numbered_paths terms (journal ++ more) ≡ numbered_behind (numbered_paths terms journal) more
+numbered_paths-append terms journal more =
+    let before = map (λ (s : List ℕ × Seq). s.0) terms.beginning.numbers in
+    let paths = map (λ (n : Notice). n.path) in
+    let all : notices terms (journal ++ more) ≡ notices terms journal ++ new_notices more =
+    ap (λ ns. terms.beginning.notices ++ ns) (tellings-append (λ (t : Tells). t.notice) journal more) ∙ sym (append_assoc terms.beginning.notices (new_notices journal) (new_notices more)) in
+    ap (λ ns. fold with_path [] (before ++ paths ns)) all
+    ∙ ap (λ ps. fold with_path [] (before ++ ps)) (map-append (λ (n : Notice). n.path) (notices terms journal) (new_notices more))
+    ∙ ap (fold with_path []) (sym (append_assoc before (paths (notices terms journal)) (paths (new_notices more))))
+    ∙ fold-append with_path [] (before ++ paths (notices terms journal)) (paths (new_notices more))
 
 -- ---- the paths that are numbered
 
--- the paths that are numbered, with those that the event notes
-numbered-now : (old made : Core) (event : Event) → made.terms ≡ old.terms → made.sheet.events ≡ old.sheet.events ++ event ∷ []
-    → numbered_paths made.terms made.sheet.events ≡ with_noted (numbered_paths old.terms old.sheet.events) event.what
-numbered-now old made event told events =
-    ap (λ (t : Terms). numbered_paths t made.sheet.events) told ∙ ap (numbered_paths old.terms) events ∙ numbered_paths-push old.terms old.sheet.events event
+-- the paths that are numbered, with those that some events note
+pub numbered-now : (old made : Core) (events : List Event) → made.terms ≡ old.terms → made.sheet.events ≡ old.sheet.events ++ events
+    → numbered_paths made.terms made.sheet.events ≡ numbered_behind (numbered_paths old.terms old.sheet.events) events
+numbered-now old made events told now =
+    ap (λ (t : Terms). numbered_paths t made.sheet.events) told ∙ ap (numbered_paths old.terms) now ∙ numbered_paths-append old.terms old.sheet.events events
 
 numbered-same : (old made : Core) → made.terms ≡ old.terms → made.sheet.events ≡ old.sheet.events → numbered_paths made.terms made.sheet.events ≡ numbered_paths old.terms old.sheet.events
 numbered-same old made told events = ap (λ (t : Terms). numbered_paths t made.sheet.events) told ∙ ap (numbered_paths old.terms) events
@@ -70,35 +80,64 @@ noted-now core numbers none = subst (NumbersAfter core) none numbers
 
 -- ---- the cause of a refusal
 
+-- the journal as the step found it, and what stands behind
+front-is : (xs ys : List Event) → take (length xs) (xs ++ ys) ≡ xs
+front-is xs ys = take-append-le (length xs) xs ys (omega arith) ∙ take_all (length xs) xs (omega arith)
+
+rest-is : (xs ys : List Event) → drop (length xs) (xs ++ ys) ≡ ys
+rest-is [] ys = refl
+rest-is (x ∷ xs) ys = rest-is xs ys
+
+pub no_ends : AreEnds []
+no_ends k d within = absurd (omega (arith, within))
+
+-- the cause speaks of the journal as the step found it, and of what stands behind
+pub caused-at : (core : Core) (before behind : List Event) (by at : ℕ) (fault : CoreFault) (tried : Option Happened) → core.sheet.events ≡ before ++ behind → at ≡ length before → CausedBy core before behind by fault tried
+    → IsCaused core (record { by = by; at = at; fault = fault; tried = tried })
+caused-at core before behind by at fault tried events place cause =
+    let before_is : take at core.sheet.events ≡ before = ap (take at) events ∙ ap (λ n. take n (before ++ behind)) place ∙ front-is before behind in
+    let behind_is : drop at core.sheet.events ≡ behind = ap (drop at) events ∙ ap (λ n. drop n (before ++ behind)) place ∙ rest-is before behind in
+    record {
+      place = omega (arith, place, ap length events, length-append before behind);
+      cause = subst (λ (bs : List Event). CausedBy core bs (drop at core.sheet.events) by fault tried) (sym before_is)
+          (subst (λ (es : List Event). CausedBy core before es by fault tried) (sym behind_is) cause);
+    }
+
+-- where the events stayed
+module _ (old made : Core) (event : Event) (fault : CoreFault) (refusal : Option Refusal) where
+  stayed : made.sheet.events ≡ old.sheet.events → CausedBy (record made { refusal = refusal }) old.sheet.events [] event.by fault (tried_at fault event.what)
+      → IsCaused (record made { refusal = refusal }) (record { by = event.by; at = length old.sheet.events; fault = fault; tried = tried_at fault event.what })
+  stayed events cause = caused-at (record made { refusal = refusal }) old.sheet.events [] event.by (length old.sheet.events) fault (tried_at fault event.what) (events ∙ sym (append-nil old.sheet.events)) refl cause
+
 caused : (old made : Core) (event : Event) (fault : CoreFault) (refusal : Option Refusal) → May old.terms old.sheet.events event.by event.what → Halts old made event fault
-    → CausedBy (record made { refusal = refusal }) event.by (length old.sheet.events) fault (tried_at fault event.what)
-caused old made event TooManyDocuments refusal may halts = (
-  ap length (sym halts.1.1.events),
+    → IsCaused (record made { refusal = refusal }) (record { by = event.by; at = length old.sheet.events; fault = fault; tried = tried_at fault event.what })
+caused old made event TooManyDocuments refusal may halts = stayed old made event TooManyDocuments refusal halts.1.1.events (
   record {
-    may = rw (halts.0.terms, halts.1.1.events) may;
+    may = rw halts.0.terms may;
     notice = halts.1.0.notice;
     notes = halts.1.0.notes;
     new_path = rw halts.1.2 halts.1.0.new_path;
     many = rw (halts.0.most, halts.1.2) halts.1.0.many;
   },
+  no_ends,
 )
-caused old made event (JournalFull used more) refusal may halts = (
-  ap length (sym halts.1.0.stays.events),
+caused old made event (JournalFull used more) refusal may halts = stayed old made event (JournalFull used more) refusal halts.1.0.stays.events (
   record {
-    may = rw (halts.0.terms, halts.1.0.stays.events) may;
-    counted = halts.1.0.counted ∙ ap journal_bytes (sym halts.1.0.stays.events);
-    wanted = halts.1.0.wanted;
+    may = rw halts.0.terms may;
+    counted = halts.1.0.counted;
+    wanted = rw halts.0.terms halts.1.0.wanted;
     over = rw halts.1.0.stays.limit halts.1.0.over;
   },
+  no_ends,
 )
-caused old made event OutOfMemory refusal may halts = ap length (sym halts.1.stays.events)
+caused old made event OutOfMemory refusal may halts = stayed old made event OutOfMemory refusal halts.1.stays.events no_ends
 caused old made event WriteFault refusal may halts =
-    let events = halts.1.0.events in
-    record {
-      may = rw (halts.0.terms, events, take-append-le (length old.sheet.events) old.sheet.events (event ∷ []) (omega arith), take_all (length old.sheet.events) old.sheet.events (omega arith)) may;
-      last = rw events (slice_get-push old.sheet.events event);
-      place = rw events (omega (arith, length-append old.sheet.events (event ∷ [])));
-    }
+    caused-at (record made { refusal = refusal }) old.sheet.events (event ∷ []) event.by (length old.sheet.events) WriteFault (Some event.what) halts.1.0.events refl (record {
+      may = rw halts.0.terms may;
+      ends = [];
+      events = refl;
+      each = no_ends;
+    })
 caused old made event Ended refusal may halts = absurd halts.1
 
 -- no step changes the bound
@@ -137,8 +176,8 @@ numbers-refused old made event OutOfMemory refusal noted halts = tt
 numbers-refused old made event WriteFault refusal noted halts =
     let cut = halts.1.0.written in
     let unnoted = prints-unnoted event.what (omega (arith, cut.1)) in
-    halts.1.1 ∙ noted ∙ sym (numbered-now old made event halts.0.terms halts.1.0.events
-    ∙ ap (λ (o : Option Notice). fold with_path (numbered_paths old.terms old.sheet.events) (map (λ (n : Notice). n.path) (option_to_list o))) unnoted)
+    halts.1.1 ∙ noted ∙ sym (numbered-now old made (event ∷ []) halts.0.terms halts.1.0.events
+    ∙ ap (λ (ns : List Notice). fold with_path (numbered_paths old.terms old.sheet.events) (map (λ (n : Notice). n.path) ns)) (new_notices-push [] event ∙ ap option_to_list unnoted))
 numbers-refused old made event Ended refusal noted halts = absurd halts.1
 
 -- refusals that are kept change nothing of what the step left
@@ -170,7 +209,7 @@ printed-keeps (Some xs) None now bytes appends keeps = absurd appends
 printed-keeps (Some xs) (Some ys) None bytes appends keeps = absurd keeps
 printed-keeps (Some xs) (Some ys) (Some zs) bytes appends keeps = keeps ∙ appends
 
-printed-more : (first before now : Option (List ℕ)) (bytes more : List ℕ) → Appends first before bytes → Appends before now more → Appends first now (bytes ++ more)
+pub printed-more : (first before now : Option (List ℕ)) (bytes more : List ℕ) → Appends first before bytes → Appends before now more → Appends first now (bytes ++ more)
 printed-more None before now bytes more appends then = tt
 printed-more (Some xs) None now bytes more appends then = absurd appends
 printed-more (Some xs) (Some ys) None bytes more appends then = absurd then
@@ -182,9 +221,9 @@ prints-stays fixed old new prints stays = record {
   faults = stays.faults ∙ prints.faults;
 }
 
-prints-adds : (fixed : Fixed) (old new : Sheet) (event : Event) → PrintsAll fixed old → Adds old new event → PrintsAll fixed new
-prints-adds fixed old new event prints adds = record {
-  written = rw (adds.events, printed-push old.events event) (printed-more fixed.written old.written new.written (printed old.events) (lines_of event.what) prints.written adds.written);
+pub prints-adds : (fixed : Fixed) (old new : Sheet) (events : List Event) → PrintsAll fixed old → Adds old new events → PrintsAll fixed new
+prints-adds fixed old new events prints adds = record {
+  written = rw (adds.events, flat_map-append (λ (e : Event). lines_of e.what) old.events events) (printed-more fixed.written old.written new.written (printed old.events) (printed events) prints.written adds.written);
   faults = adds.faults ∙ prints.faults;
 }
 
@@ -212,7 +251,7 @@ prints-refused fixed old made event Ended prints halts = absurd halts.1
 
 -- ---- the step as a whole
 
-module _ {T : Type 0} (old made : Core) (earlier : Option Refusal) (event : Event) (result : Result T CoreFault) (refusal : Option Refusal) (step : IsStep old made earlier event result refusal) where
+module _ {T : Type 0} (old made : Core) (earlier : Option Refusal) (event : Event) (result : Result T CoreFault) (refusal : Option Refusal) (step : IsMade old made earlier event result refusal) where
   abbrev refusal_at : CoreFault → Option Refusal
   refusal_at fault = Some (record { by = event.by; at = length old.sheet.events; fault = fault; tried = tried_at fault event.what })
 
@@ -235,7 +274,7 @@ module _ {T : Type 0} (old made : Core) (earlier : Option Refusal) (event : Even
       by : (r : Result T CoreFault) → OnOk r (Makes old made event) → IfErr r (Halts old made event) → OnOk r (refusal ≡ earlier) → IfErr r Told_at → IsCatalog (record made { refusal = refusal })
       by (Ok x) makes halts kept told =
           rw (kept, step.unrefused) (record {
-            numbered = makes.numbered ∙ ap (λ ns. with_noted ns event.what) noted ∙ sym (numbered-now old made event makes.told.terms makes.adds.events);
+            numbered = makes.numbered ∙ ap (λ ns. numbered_behind ns (step_in old event)) noted ∙ sym (numbered-now old made (step_in old event) makes.told.terms makes.adds.events);
             cause = tt;
           })
       by (Err fault) makes halts kept told =
@@ -256,7 +295,7 @@ module _ {T : Type 0} (old made : Core) (earlier : Option Refusal) (event : Even
             limit = makes.adds.limit ∙ has.limit;
             most = makes.told.most ∙ has.most;
             terms = makes.told.terms ∙ has.terms;
-            prints = prints-adds fixed old.sheet made.sheet event prints makes.adds;
+            prints = prints-adds fixed old.sheet made.sheet (step_in old event) prints makes.adds;
           })
       by (Err fault) makes halts kept told =
           rw told (record {
@@ -272,16 +311,16 @@ pub Rests-refl : (core : Core) → Rests core core
 Rests-refl core = record { stays = Stays-refl core.sheet; told = Told-refl core; numbered = refl }
 
 -- what opening gives is told of the catalogue without its refusal
-pub OpensFirst-kept : (before after : Core) (one other : Option Refusal) (by : ℕ) (result : Result (Option Question) CoreFault) → IfOk result (OpensFirst before after by)
-    → IfOk result (OpensFirst (record before { refusal = one }) (record after { refusal = other }) by)
-OpensFirst-kept before after one other by (Err fault) opens = tt
-OpensFirst-kept before after one other by (Ok None) opens =
+pub OpensFirst-kept : (before now : Core) (one other : Option Refusal) (by : ℕ) (result : Result (Option Question) CoreFault) → IfOk result (OpensFirst before now by)
+    → IfOk result (OpensFirst (record before { refusal = one }) (record now { refusal = other }) by)
+OpensFirst-kept before now one other by (Err fault) opens = tt
+OpensFirst-kept before now one other by (Ok None) opens =
     let rests = opens.1 in
     (opens.0, record { stays = rests.stays; told = record { terms = rests.told.terms; most = rests.told.most }; numbered = rests.numbered })
-OpensFirst-kept before after one other by (Ok (Some question)) opens =
+OpensFirst-kept before now one other by (Ok (Some question)) opens =
     let makes = opens.makes in
     record {
-      makes = record { adds = makes.adds; told = record { terms = makes.told.terms; most = makes.told.most }; numbered = makes.numbered };
+      makes = record { adds = makes.adds; within = makes.within; told = record { terms = makes.told.terms; most = makes.told.most }; numbered = makes.numbered };
       first = opens.first;
       at = opens.at;
       plain = opens.plain;

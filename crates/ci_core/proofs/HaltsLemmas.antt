@@ -1,10 +1,15 @@
 -- What a refusal of a part says of the step that wanted it.
-use Rattle.std.proofs.Common.{◌≡◌, ◌≤◌, ℕ, List, Option, Some, None, false, length, refl}
+use Rattle.std.proofs.Common.{arith, ◌≡◌, ◌≤◌, ℕ, Bool, List, [], ◌∷◌, Option, Some, None, true, false, length, refl}
 use Rattle.std.specs.Io.KnownBytes.{Keeps}
 use Rattle.ci_change.specs.declared.notice.Notice.{Notice}
 use Rattle.ci_change.specs.declared.notice.What.{What}
 use Rattle.ci_journal.specs.declared.event.Event.{Event}
-use Rattle.ci_journal.specs.Bytes.{capped, event_bytes}
+use Rattle.ci_journal.specs.declared.event.Happened.{Happened}
+use Rattle.ci_journal.specs.declared.event.Happened.TheVariants.{Asked, Noted, Put, Erased, Started, StartFailed, DaemonLost, Begun, BatchDone, BatchDied, Returned, Shadowed, MasterBegun, MasterStep, MasterEnded, Opened, Answered, Said}
+use Rattle.ci_journal.specs.Bytes.{capped, journal_bytes}
+use Rattle.ci_journal.specs.Step.{step_of}
+use Rattle.ci_journal.specs.Tells.{event}
+use Rattle.ci_journal.specs.Terms.{Terms}
 use Rattle.ci_journal.specs.Folds.{is_numbered}
 use Rattle.ci_core.specs.declared.core_fault.CoreFault.{CoreFault}
 use Rattle.ci_core.specs.declared.core_fault.CoreFault.TheVariants.{TooManyDocuments, JournalFull, OutOfMemory, WriteFault, Ended}
@@ -16,21 +21,52 @@ use Rattle.ci_core.specs.Changes.{IsReady, LacksRoom, Stays, noted}
 use Rattle.ci_core.specs.Core.{Core}
 use Rattle.ci_core.specs.Sheet.{Sheet}
 use Rattle.ci_core.specs.Refusals.{Halts, IsCrowded, Stops}
-use Rattle.ci_core.specs.Steps.{Told}
+use Rattle.ci_core.specs.Steps.{Told, step_in}
 use Rattle.ci_core.proofs.ChangesLemmas.{LacksRoom-counted, Starves-from_IsReady}
 
-pub Stops-from_LacksRoom : (old new : Core) (event : Event) (fault : CoreFault) → LacksRoom old.sheet new.sheet (event_bytes event.what) fault → new.numbered ≡ old.numbered → Stops old new event fault
+-- a start that failed, the one event whose step may have another behind it
+abbrev pub is_failed : Happened → Bool
+is_failed StartFailed = true
+is_failed _ = false
+
+pub Stops-from_LacksRoom : (old new : Core) (event : Event) (fault : CoreFault) → LacksRoom old.sheet new.sheet (journal_bytes (step_in old event)) fault → new.numbered ≡ old.numbered → Stops old new event fault
 Stops-from_LacksRoom old new event TooManyDocuments none same = absurd none
 Stops-from_LacksRoom old new event (JournalFull used more) full same = (full, same)
 Stops-from_LacksRoom old new event OutOfMemory starves same = starves
 Stops-from_LacksRoom old new event WriteFault none same = absurd none
 Stops-from_LacksRoom old new event Ended none same = absurd none
 
--- there was no room for an event of so many bytes, as they are counted
-pub Halts-from_LacksRoom : (old new : Core) (event : Event) (counted : ℕ) (fault : CoreFault) → old.sheet.limit ≤ JOURNAL_MOST → counted ≡ capped (event_bytes event.what)
+-- there was no room for the step's events, which come to so many bytes as they are counted
+pub Halts-from_LacksRoom : (old new : Core) (event : Event) (counted : ℕ) (fault : CoreFault) → old.sheet.limit ≤ JOURNAL_MOST → counted ≡ capped (journal_bytes (step_in old event))
     → LacksRoom old.sheet new.sheet counted fault → Told old new → new.numbered ≡ old.numbered → Halts old new event fault
 Halts-from_LacksRoom old new event counted fault small e lacks told same =
-    (told, Stops-from_LacksRoom old new event fault (LacksRoom-counted old.sheet new.sheet counted (event_bytes event.what) fault small e lacks) same)
+    (told, Stops-from_LacksRoom old new event fault (LacksRoom-counted old.sheet new.sheet counted (journal_bytes (step_in old event)) fault small e lacks) same)
+
+-- there was room for them, but no memory for what they need besides
+pub Halts-starved : (old new : Core) (event : Event) (places counted : ℕ) → old.sheet.limit ≤ JOURNAL_MOST → counted ≡ capped (journal_bytes (step_in old event)) → IsReady old.sheet new.sheet places counted
+    → Told old new → Halts old new event OutOfMemory
+Halts-starved old new event places counted small e ready told = (told, Starves-from_IsReady old.sheet new.sheet places counted (journal_bytes (step_in old event)) small e ready)
+
+-- where entries are kept whole, each event but a failed start is a step alone
+pub alone : (terms : Terms) (journal : List Event) (by : ℕ) (what : Happened) → terms.in_lists ≡ false → is_failed what ≡ false → step_of terms journal by what ≡ event by what ∷ []
+alone terms journal by (Put path seq transcript) whole other = rw whole refl
+alone terms journal by (Erased path seq) whole other = rw whole refl
+alone terms journal by (BatchDone number outcomes) whole other = rw whole refl
+alone terms journal by StartFailed whole other = absurd (cc)
+alone terms journal by (Asked id request) whole other = refl
+alone terms journal by (Noted notice) whole other = refl
+alone terms journal by Started whole other = refl
+alone terms journal by DaemonLost whole other = refl
+alone terms journal by (Begun batch) whole other = refl
+alone terms journal by (BatchDied number charged) whole other = refl
+alone terms journal by (Returned number) whole other = refl
+alone terms journal by Shadowed whole other = refl
+alone terms journal by MasterBegun whole other = refl
+alone terms journal by (MasterStep split) whole other = refl
+alone terms journal by MasterEnded whole other = refl
+alone terms journal by (Opened id) whole other = refl
+alone terms journal by (Answered id at paths) whole other = refl
+alone terms journal by (Said id reply) whole other = refl
 
 pub Told-refl : (old : Core) → Told old old
 Told-refl old = record { terms = refl; most = refl }
@@ -40,7 +76,7 @@ Keeps-refl None = tt
 Keeps-refl (Some bytes) = refl
 
 pub Stays-refl : (sheet : Sheet) → Stays sheet sheet
-Stays-refl sheet = record { events = refl; limit = refl; written = Keeps-refl sheet.written; faults = refl }
+Stays-refl sheet = record { events = refl; spare = omega arith; limit = refl; written = Keeps-refl sheet.written; faults = refl }
 
 -- as many paths are numbered as may be, and the path is new
 pub Halts-crowded : (old : Core) (by : ℕ) (path : List ℕ) (number : ℕ) (what : What) → is_numbered old.numbered path ≡ false → old.most ≤ length old.numbered → Halts old old (noted by path number what) TooManyDocuments
@@ -50,7 +86,7 @@ Halts-crowded old by path number what new_path many =
     (Told-refl old, (crowded, Stays-refl old.sheet, refl))
 
 -- a new path was not numbered for want of memory
-pub Halts-unnumbered : (old new : Core) (event : Event) (counted : ℕ) (fault : NumberFault) → (fault ≡ number.TooManyDocuments → ⊥) → old.sheet.limit ≤ JOURNAL_MOST → counted ≡ capped (event_bytes event.what)
-    → IsReady old.sheet new.sheet counted → Told old new → Halts old new event (fault_of_number fault)
-Halts-unnumbered old new event counted number.TooManyDocuments other small e ready told = absurd (other refl)
-Halts-unnumbered old new event counted number.OutOfMemory other small e ready told = (told, Starves-from_IsReady old.sheet new.sheet counted (event_bytes event.what) small e ready)
+pub Halts-unnumbered : (old new : Core) (event : Event) (places counted : ℕ) (fault : NumberFault) → (fault ≡ number.TooManyDocuments → ⊥) → old.sheet.limit ≤ JOURNAL_MOST → counted ≡ capped (journal_bytes (step_in old event))
+    → IsReady old.sheet new.sheet places counted → Told old new → Halts old new event (fault_of_number fault)
+Halts-unnumbered old new event places counted number.TooManyDocuments other small e ready told = absurd (other refl)
+Halts-unnumbered old new event places counted number.OutOfMemory other small e ready told = Halts-starved old new event places counted small e ready told

@@ -1,43 +1,57 @@
 -- What is kept beside the journal, as one more event comes.
-use Rattle.std.proofs.Common.{arith, ◌≡◌, ◌∙◌, ℕ, ◌+◌, ◌≤◌, List, [], ◌∷◌, ◌++◌, length, option_to_list, refl, ap, sym, subst, length-append}
+use Rattle.std.proofs.Common.{arith, ◌≡◌, ◌∙◌, ℕ, ◌+◌, ◌≤◌, List, [], ◌∷◌, ◌++◌, fold, length, option_to_list, refl, ap, sym, subst, length-append}
 use Rattle.std.specs.FinMap as map_of_keys
-use Rattle.std.proofs.lemmas.List.Elements.{All-push}
 use Rattle.ci_change.specs.HandedIn.{HandedIn}
 use Rattle.ci_journal.specs.declared.event.Event.{Event}
-use Rattle.ci_journal.specs.Bytes.{journal_bytes}
-use Rattle.ci_journal.specs.Filings.{Filings, filings, batches}
-use Rattle.ci_journal.specs.Folds.{requests_in, new_notices, notices, reply_numbers}
+use Rattle.ci_journal.specs.Bytes.{capped, event_bytes}
+use Rattle.ci_journal.specs.Daemon.{failures, failures_behind}
+use Rattle.ci_journal.specs.Filings.{Filings, filings, batches, out}
+use Rattle.ci_journal.specs.Folds.{requests_in, new_notices, reply_numbers}
 use Rattle.ci_journal.specs.Served.{numbers_of, served_by}
 use Rattle.ci_journal.specs.Step.{May, Run, step_of}
 use Rattle.ci_journal.specs.Step.Run.{Empty}
-use Rattle.ci_journal.specs.Tells.{tells}
+use Rattle.ci_journal.specs.Tells.{Tells, tells}
 use Rattle.ci_journal.specs.Terms.{Terms, path_cmp, found_served, Beginning}
+use Rattle.ci_journal.proofs.TellsLemmas.{tellings-fold}
 use Rattle.ci_journal.proofs.ChainLemmas.{Run-one}
 use Rattle.ci_journal.proofs.FoldsLemmas.{requests_in-push, new_notices-push, notices-push, reply_numbers-push, batch_of, batches-push, file_where, filings-push}
 use Rattle.ci_core.specs.declared.settings.TheConstants.{JOURNAL_MOST}
 use Rattle.ci_core.specs.declared.core_fault.CoreFault.{CoreFault}
 use Rattle.ci_core.specs.declared.core_fault.CoreFault.TheVariants.{TooManyDocuments, JournalFull, OutOfMemory, WriteFault, Ended}
-use Rattle.ci_core.specs.Changes.{Adds, LacksRoom, Stays}
+use Rattle.ci_core.specs.Book.{IsWithin}
+use Rattle.ci_core.specs.Changes.{IsReady, LacksRoom, Puts, Stays}
 use Rattle.ci_documents.specs.Documents.{KeepsEntries, Standings, StandFor}
 use Rattle.ci_core.specs.Kept.{IsHolding, Shelf, StartsEmpty}
+use Rattle.ci_core.specs.Open.{AreOpen}
 use Rattle.ci_core.specs.Serving.{AreServed}
+use Rattle.ci_core.specs.declared.question.Question.{Question}
 use Rattle.ci_core.specs.Sheet.{Sheet}
 use Rattle.ci_core.specs.Waiting.{IsQueue, Marks}
 use Rattle.ci_core.specs.declared.waiting.Waiting.{Waiting}
+use Rattle.ci_core.proofs.ChangesLemmas.{fits-one}
 use Rattle.ci_core.proofs.MarksLemmas.{marks_behind, marks-follow}
+use Rattle.ci_core.proofs.OpenLemmas.{AreOpen-empty}
+use Rattle.ci_core.proofs.OutLemmas.{out-push}
 use Rattle.ci_core.proofs.QueueLemmas.{IsQueue-empty}
+use Rattle.ci_core.proofs.WithinLemmas.{IsWithin-whole}
+
+-- the failed starts behind one event more
+pub failures-push : (journal : List Event) (e : Event) → failures (journal ++ e ∷ []) ≡ fold failures_behind (failures journal) (option_to_list (tells e.what).start)
+failures-push journal e = tellings-fold (λ (t : Tells). t.start) failures_behind 0 journal e
 
 -- an empty journal says nothing
-pub IsHolding-empty : (terms : Terms) (sheet : Sheet) (shelf : Shelf) → StartsEmpty terms → sheet.events ≡ [] → sheet.limit ≤ JOURNAL_MOST → shelf.documents ≡ [] → shelf.waiting ≡ [] → shelf.marks.list ≡ [] →
-    shelf.changes.notices ≡ [] → shelf.changes.served ≡ [] → shelf.changes.out ≡ [] → shelf.requests ≡ 0 → shelf.replies ≡ 0 → shelf.noted ≡ 0 → shelf.begun ≡ 0 → IsHolding terms sheet shelf
-IsHolding-empty terms sheet shelf starts none small no_document no_query no_mark no_notice no_served no_out requests replies noted begun = record {
+pub IsHolding-empty : (terms : Terms) (sheet : Sheet) (shelf : Shelf) → StartsEmpty terms → sheet.events ≡ [] → sheet.limit ≤ JOURNAL_MOST → shelf.documents ≡ [] → shelf.waiting ≡ [] → shelf.questions ≡ [] → shelf.marks.list ≡ [] →
+    shelf.changes.notices ≡ [] → shelf.changes.served ≡ [] → shelf.changes.out ≡ [] → shelf.requests ≡ 0 → shelf.replies ≡ 0 → shelf.noted ≡ 0 → shelf.begun ≡ 0 → shelf.places ≡ 1 → shelf.failed ≡ 0 → IsHolding terms sheet shelf
+IsHolding-empty terms sheet shelf starts none small no_document no_query no_question no_mark no_notice no_served no_out requests replies noted begun places failed = record {
   starts = starts;
   run = rw none Empty;
-  within = rw none (omega arith);
+  within = rw none (IsWithin-whole sheet.limit [] (omega arith));
+  room = rw none (omega arith);
   small = small;
   served = rw none (λ k d within. absurd (omega (arith, within)));
-  counts = rw none (record { requests = requests; replies = replies; noted = noted; begun = begun });
+  counts = rw none (record { requests = requests; replies = replies; noted = noted; begun = begun; places = places; failed = failed });
   waits = rw (none, no_query) (IsQueue-empty terms);
+  opened = rw (none, no_question) (AreOpen-empty terms);
   marks = rw (none, no_mark) (record { counted = refl; each = λ k within. absurd (omega (arith, within)) });
   tracks = rw none (record {
     notices = no_notice ∙ sym (ap (λ (b : Beginning). b.notices ++ []) starts.beginning);
@@ -55,7 +69,10 @@ pub record Follows (terms : Terms) (old : Sheet) (event : Event) (before after :
   pub replies : after.replies ≡ before.replies + length (option_to_list (tells event.what).reply)
   pub noted : after.noted ≡ before.noted + length (option_to_list (tells event.what).notice)
   pub begun : after.begun ≡ before.begun + length (batch_of (tells event.what).filed)
+  pub places : after.places ≡ length (file_where (filings old.events) (tells event.what).filed).out + 1
+  pub failed : after.failed ≡ fold failures_behind before.failed (option_to_list (tells event.what).start)
   pub waits : IsQueue terms (old.events ++ event ∷ []) after.waiting
+  pub opened : AreOpen terms (old.events ++ event ∷ []) after.questions
   pub marks : after.marks.list ≡ marks_behind before.marks.list event.what
   pub notices : after.changes.notices ≡ before.changes.notices ++ option_to_list (tells event.what).notice
   pub filed : AreServed (file_where (filings old.events) (tells event.what).filed).filed
@@ -65,11 +82,12 @@ pub record Follows (terms : Terms) (old : Sheet) (event : Event) (before after :
 
 module _ (terms : Terms) (old : Sheet) (event : Event) (before after : Shelf) (kept : IsHolding terms old before) (step : Follows terms old event before after) where
   -- the longer journal and what is kept beside it
-  pub IsHolding-follows : (new : Sheet) → new.events ≡ old.events ++ event ∷ [] → new.limit ≡ old.limit → journal_bytes new.events ≤ new.limit → IsHolding terms new after
-  IsHolding-follows new events limit within = record {
+  pub IsHolding-follows : (new : Sheet) → new.events ≡ old.events ++ event ∷ [] → new.limit ≡ old.limit → IsWithin new.limit (old.events ++ event ∷ []) → after.places ≤ new.spare + 1 → IsHolding terms new after
+  IsHolding-follows new events limit within room = record {
     starts = kept.starts;
     run = rw events (Run-one terms old.events event kept.run step.may step.alone);
-    within = within;
+    within = subst (IsWithin new.limit) (sym events) within;
+    room = omega (arith, room, step.places, ap length (ap out events ∙ out-push old.events event));
     small = rw limit kept.small;
     served = rw events (subst (λ (f : Filings). AreServed f.filed) (sym (filings-push old.events event)) step.filed);
     counts = rw events (record {
@@ -77,7 +95,10 @@ module _ (terms : Terms) (old : Sheet) (event : Event) (before after : Shelf) (k
       replies = omega (arith, kept.counts.replies, step.replies, ap length (reply_numbers-push old.events event), length-append (reply_numbers old.events) (option_to_list (tells event.what).reply));
       noted = omega (arith, kept.counts.noted, step.noted, ap length (new_notices-push old.events event), length-append (new_notices old.events) (option_to_list (tells event.what).notice));
       begun = omega (arith, kept.counts.begun, step.begun, ap length (batches-push old.events event), length-append (batches old.events) (batch_of (tells event.what).filed));
+      places = step.places ∙ ap (λ bs. length bs + 1) (sym (out-push old.events event));
+      failed = step.failed ∙ ap (λ n. fold failures_behind n (option_to_list (tells event.what).start)) kept.counts.failed ∙ sym (failures-push old.events event);
     });
+    opened = subst (λ es. AreOpen terms es after.questions) (sym events) step.opened;
     waits = subst (λ es. IsQueue terms es after.waiting) (sym events) step.waits;
     marks = rw (events, step.marks) (marks-follow terms old.events kept.run before.marks.list kept.marks event.by event.what step.may);
     tracks = rw events (record {
@@ -89,20 +110,27 @@ module _ (terms : Terms) (old : Sheet) (event : Event) (before after : Shelf) (k
   }
 
 -- a step that made room, and then added its event
-pub IsHolding-adds : (terms : Terms) (old ready new : Sheet) (event : Event) (before after : Shelf) → IsHolding terms old before → Stays old ready → Adds ready new event → Follows terms old event before after → IsHolding terms new after
-IsHolding-adds terms old ready new event before after kept stays adds step =
-    IsHolding-follows terms old event before after kept step new (adds.events ∙ ap (λ es. es ++ event ∷ []) stays.events) (adds.limit ∙ stays.limit) adds.within
+pub IsHolding-adds : (terms : Terms) (old ready new : Sheet) (places counted : ℕ) (event : Event) (before after : Shelf) → IsHolding terms old before → counted ≡ capped (event_bytes event.what) → IsReady old ready places counted
+    → after.places ≤ places → Puts ready new event → Follows terms old event before after → IsHolding terms new after
+IsHolding-adds terms old ready new places counted event before after kept counts fits few puts step =
+    let adds = puts.adds in
+    let events = adds.events ∙ ap (λ es. es ++ event ∷ []) fits.stays.events in
+    IsHolding-follows terms old event before after kept step new events (adds.limit ∙ fits.stays.limit)
+    (subst (IsWithin new.limit) events (IsWithin-whole new.limit new.events (fits-one old ready new places counted event kept.small counts fits adds)))
+    (omega (arith, fits.room, few, puts.spare))
 
--- what is kept goes by the events and the bound alone
-pub IsHolding-moved : (terms : Terms) (old new : Sheet) (shelf : Shelf) → IsHolding terms old shelf → new.events ≡ old.events → new.limit ≡ old.limit → IsHolding terms new shelf
-IsHolding-moved terms old new shelf kept events limit = record {
+-- what is kept goes by the events, the room and the bound alone
+pub IsHolding-moved : (terms : Terms) (old new : Sheet) (shelf : Shelf) → IsHolding terms old shelf → new.events ≡ old.events → old.spare ≤ new.spare → new.limit ≡ old.limit → IsHolding terms new shelf
+IsHolding-moved terms old new shelf kept events spare limit = record {
   starts = kept.starts;
   run = subst (Run terms) (sym events) kept.run;
   within = rw (events, limit) kept.within;
+  room = omega (arith, kept.room, spare, ap (λ es. length (out es)) events);
   small = rw limit kept.small;
   served = rw events kept.served;
   counts = rw events kept.counts;
   waits = subst (λ es. IsQueue terms es shelf.waiting) (sym events) kept.waits;
+  opened = subst (λ es. AreOpen terms es shelf.questions) (sym events) kept.opened;
   marks = rw events kept.marks;
   tracks = rw events kept.tracks;
   stands = rw events kept.stands;
@@ -110,7 +138,7 @@ IsHolding-moved terms old new shelf kept events limit = record {
 
 -- a step that was refused before it changed anything
 pub IsHolding-stays : (terms : Terms) (old new : Sheet) (shelf : Shelf) → IsHolding terms old shelf → Stays old new → IsHolding terms new shelf
-IsHolding-stays terms old new shelf kept stays = IsHolding-moved terms old new shelf kept stays.events stays.limit
+IsHolding-stays terms old new shelf kept stays = IsHolding-moved terms old new shelf kept stays.events stays.spare stays.limit
 
 -- room that was made for an entry changes nothing that is kept
 pub IsHolding-placed : (terms : Terms) (old new : Sheet) (shelf : Shelf) (documents : Standings) → IsHolding terms old shelf → Stays old new → KeepsEntries shelf.documents documents → IsHolding terms new (record shelf { documents = documents })
@@ -120,10 +148,12 @@ IsHolding-placed terms old new shelf documents kept stays keeps =
       starts = same.starts;
       run = same.run;
       within = same.within;
+      room = same.room;
       small = same.small;
       served = same.served;
-      counts = record { requests = same.counts.requests; replies = same.counts.replies; noted = same.counts.noted; begun = same.counts.begun };
+      counts = record { requests = same.counts.requests; replies = same.counts.replies; noted = same.counts.noted; begun = same.counts.begun; places = same.counts.places; failed = same.counts.failed };
       waits = same.waits;
+      opened = same.opened;
       marks = same.marks;
       tracks = same.tracks;
       stands = λ path. same.stands path ∙ sym (keeps.entries path);
@@ -144,10 +174,12 @@ IsHolding-shown terms sheet shelf waiting marks kept waits marked = record {
   starts = kept.starts;
   run = kept.run;
   within = kept.within;
+  room = kept.room;
   small = kept.small;
   served = kept.served;
-  counts = record { requests = kept.counts.requests; replies = kept.counts.replies; noted = kept.counts.noted; begun = kept.counts.begun };
+  counts = record { requests = kept.counts.requests; replies = kept.counts.replies; noted = kept.counts.noted; begun = kept.counts.begun; places = kept.counts.places; failed = kept.counts.failed };
   waits = subst (IsQueue terms sheet.events) (sym waits) kept.waits;
+  opened = kept.opened;
   marks = rw marked kept.marks;
   tracks = kept.tracks;
   stands = kept.stands;
@@ -159,11 +191,30 @@ IsHolding-tracked terms sheet shelf changes kept same = record {
   starts = kept.starts;
   run = kept.run;
   within = kept.within;
+  room = kept.room;
   small = kept.small;
   served = kept.served;
-  counts = record { requests = kept.counts.requests; replies = kept.counts.replies; noted = kept.counts.noted; begun = kept.counts.begun };
+  counts = record { requests = kept.counts.requests; replies = kept.counts.replies; noted = kept.counts.noted; begun = kept.counts.begun; places = kept.counts.places; failed = kept.counts.failed };
   waits = kept.waits;
+  opened = kept.opened;
   marks = kept.marks;
   tracks = rw same (record { notices = kept.tracks.notices; served = kept.tracks.served; out = kept.tracks.out });
+  stands = kept.stands;
+}
+
+-- questions that stayed change nothing that is kept
+pub IsHolding-unasked : (terms : Terms) (sheet : Sheet) (shelf : Shelf) (questions : List Question) → IsHolding terms sheet shelf → questions ≡ shelf.questions → IsHolding terms sheet (record shelf { questions = questions })
+IsHolding-unasked terms sheet shelf questions kept same = record {
+  starts = kept.starts;
+  run = kept.run;
+  within = kept.within;
+  room = kept.room;
+  small = kept.small;
+  served = kept.served;
+  counts = record { requests = kept.counts.requests; replies = kept.counts.replies; noted = kept.counts.noted; begun = kept.counts.begun; places = kept.counts.places; failed = kept.counts.failed };
+  waits = kept.waits;
+  opened = rw same kept.opened;
+  marks = kept.marks;
+  tracks = kept.tracks;
   stands = kept.stands;
 }

@@ -1,14 +1,18 @@
+pub mod AnswerLemmas
 pub mod AskingLemmas
 pub mod BatchLemmas
 pub mod BeginningLemmas
 pub mod CatalogLemmas
 pub mod ChangesLemmas
+pub mod DaemonLemmas
 pub mod DeletionLemmas
+pub mod EndsLemmas
 pub mod HaltsLemmas
 pub mod KeptLemmas
 pub mod MarksLemmas
 pub mod NoticesLemmas
 pub mod NumbersLemmas
+pub mod OpenLemmas
 pub mod OutLemmas
 pub mod PendingLemmas
 pub mod QueueLemmas
@@ -16,3 +20,4 @@ pub mod RefusalLemmas
 pub mod ServedLemmas
 pub mod ServingLemmas
 pub mod StepLemmas
+pub mod WithinLemmas

@@ -96,7 +96,7 @@ without_last most (b ∷ bs) last ascend above =
 
 -- ---- along a run
 
-out-push : (journal : List Event) (e : Event) → out (journal ++ e ∷ []) ≡ (file_where (filings journal) (tells e.what).filed).out
+pub out-push : (journal : List Event) (e : Event) → out (journal ++ e ∷ []) ≡ (file_where (filings journal) (tells e.what).filed).out
 out-push journal e = ap (λ (f : Filings). f.out) (filings-push journal e)
 
 ascends : (terms : Terms) (journal : List Event) (by : ℕ) (what : Happened) → May terms journal by what → Ascend (length (batches journal)) (out journal)
@@ -237,6 +237,10 @@ pub docs_out-chain : (terms : Terms) (journal : List Event) → Chain terms jour
 docs_out-chain terms journal chain batch here =
     ap (λ bs. flat_map (λ (b : Batch). b.docs) bs) (only_number (length (batches journal)) (out journal) batch (out-chain terms journal chain) here)
     ∙ append-nil batch.docs
+
+-- it alone has its number
+pub only_out : (terms : Terms) (journal : List Event) → Run terms journal → (batch : Batch) → Contains (out journal) batch → filter (λ (b : Batch). b.number == batch.number) (out journal) ≡ batch ∷ []
+only_out terms journal run batch here = only_number (length (batches journal)) (out journal) batch (out_ascends terms journal run) here
 
 module _ (terms : Terms) (journal : List Event) (run : Run terms journal) (batch : Batch) (here : Contains (out journal) batch) where
   pub docs_out-is : docs_out (out journal) batch.number ≡ batch.docs

@@ -8,6 +8,7 @@ pub mod Erasing
 pub mod Faults
 pub mod Fixed
 pub mod Kept
+pub mod Open
 pub mod Opening
 pub mod Refusal
 pub mod Refusals

@@ -1,10 +1,10 @@
-ghost use Rattle.std.specs.Prelude.{◌≡◌, ◌+◌, false, length, IfOk, IfErr, OnOk};
+ghost use Rattle.std.specs.Prelude.{◌≡◌, ◌+◌, false, length, IfOk};
 ghost use Rattle.ci_journal.specs.Folds.{requests_in, is_opened, is_replied};
 ghost use Rattle.ci_journal.specs.Step.{MaySay};
 ghost use Rattle.ci_journal.specs.Tells.{event};
-ghost use Rattle.ci_core.specs.Refusals.{Halts};
-ghost use Rattle.ci_core.specs.Steps.{Makes};
+ghost use Rattle.ci_core.specs.Refusals.{Tries};
 
+use crate::answering::close_question;
 use crate::{CoreFault, Holdings, waiting};
 use ci_io::Sink;
 use ci_journal::{Event, Happened, Reply, Request, asked_bytes};
@@ -16,13 +16,11 @@ impl<K: Sink + Drop> Holdings<K> {
         ensures id { IfOk result (λ id. id ≡ length (requests_in self.old.sheet.events) + 1) }
         ensures unreplied { IfOk result (λ id. is_replied self.new.sheet.events id ≡ false) }
         ensures unopened { IfOk result (λ id. is_opened self.new.sheet.events id ≡ false) }
-        ensures ok { IfOk result (λ id.
-            Makes self.old self.new (event by (Happened.Asked id request))) }
-        ensures refused { let id = length (requests_in self.old.sheet.events) + 1 in
-            IfErr result (Halts self.old self.new (event by (Happened.Asked id request))) }
+        ensures step { let id = length (requests_in self.old.sheet.events) + 1 in
+            Tries self.old self.new (event by (Happened.Asked id request)) result }
     {
         let id = self.requests + 1;
-        self.book.prepare(asked_bytes(&request))?;
+        self.book.prepare(self.places, asked_bytes(&request))?;
         let tree = waiting::asked_tree(self.alloc, &request, &self.noise)?;
         self.replied.prepare()?;
         waiting::enqueue(&mut self.waiting, id, tree)?;
@@ -38,17 +36,16 @@ impl<K: Sink + Drop> Holdings<K> {
     /// The reply to a request is printed.
     pub fn say(&mut self, by: u32, id: u64, reply: Reply) -> Result<(), CoreFault>
         requires { MaySay self.old.sheet.events id }
-        ensures ok { OnOk result (Makes self.old self.new (event by (Happened.Said id reply))) }
-        ensures refused { IfErr result
-            (Halts self.old self.new (event by (Happened.Said id reply))) }
+        ensures step { Tries self.old self.new (event by (Happened.Said id reply)) result }
     {
         let event = Event {
             by,
             what: Happened::Said { id, reply },
         };
-        let lines = self.book.enter(self.alloc, event)?;
+        let lines = self.book.enter(self.alloc, self.places, event)?;
         self.replied.mark(id);
         self.replies += 1;
+        close_question(&mut self.questions, id);
         self.book.write(&lines)?;
         Ok(())
     }

@@ -3,9 +3,10 @@ ghost use Rattle.ci_journal.specs.declared.event.Happened.{Happened};
 ghost use Rattle.ci_core.specs.Batches.{Begins, CanFinish, RefusesBeginning};
 ghost use Rattle.ci_journal.specs.Tells.{event};
 ghost use Rattle.ci_core.specs.Fixed.{KeepsFixed};
-ghost use Rattle.ci_core.specs.Refusals.{Refuses};
+ghost use Rattle.ci_core.specs.Refusals.{IsStep};
 ghost use Rattle.ci_core.specs.Serving.{IsDone};
-ghost use Rattle.ci_core.specs.Steps.{IsUnrefused, Makes};
+ghost use Rattle.ci_core.specs.Steps.{Ends, IsUnrefused};
+ghost use Rattle.ci_journal.specs.Step.{MayEnd};
 
 use crate::refusal::keep;
 use crate::{Catalog, CoreFault, Tried};
@@ -40,16 +41,23 @@ impl<K: Sink + Drop> Catalog<K> {
     ) -> Result<(), CoreFault>
         requires may { CanFinish self.old.sheet.events by batch.now outcomes }
         requires done { All IsDone outcomes }
-        ensures ok { OnOk result (Makes self.old self.new
-            (event by (Happened.BatchDone batch.now.number outcomes))) }
-        ensures unrefused { OnOk result (IsUnrefused self.old self.new) }
-        ensures refused { IfErr result (Refuses self.old self.new
-            (event by (Happened.BatchDone batch.now.number outcomes))) }
+        ensures step { IsStep self.old self.new
+            (event by (Happened.BatchDone batch.now.number outcomes)) result }
         ensures fixed { KeepsFixed self.old self.new }
     {
         let at = self.place()?;
         let tried = Tried::batch_done(batch.number, &outcomes);
         let made = self.holdings.finish(by, batch, outcomes);
         keep(&mut self.refusal, by, at, tried, made)
+    }
+
+    /// The batch is out no more, and none of its documents was tried. That takes no memory and is
+    /// never refused, also where a step was refused before.
+    pub fn return_batch(&mut self, by: u32, batch: &Batch)
+        requires { MayEnd self.old.sheet.events by batch.now.number batch.now }
+        ensures ends { Ends self.old self.new (event by (Happened.Returned batch.now.number)) }
+        ensures fixed { KeepsFixed self.old self.new }
+    {
+        self.holdings.give_back(by, batch);
     }
 }

@@ -3,9 +3,10 @@ ghost use Rattle.ci_journal.specs.Bytes.{capped, event_bytes};
 ghost use Rattle.ci_core.specs.Batches.{Begins, CanFinish, HaltsBeginning};
 ghost use Rattle.ci_journal.specs.Tells.{event};
 ghost use Rattle.ci_core.specs.Changes.{IsReady, LacksRoom};
-ghost use Rattle.ci_core.specs.Refusals.{Halts};
+ghost use Rattle.ci_core.specs.Refusals.{Tries};
 ghost use Rattle.ci_core.specs.Serving.{IsDone};
-ghost use Rattle.ci_core.specs.Steps.{Makes};
+ghost use Rattle.ci_core.specs.Steps.{Ends};
+ghost use Rattle.ci_journal.specs.Step.{MayEnd};
 
 use crate::serving::{entries_of, make_places, serve_all};
 use crate::{Book, CoreFault, Holdings, Unbegun};
@@ -27,9 +28,10 @@ impl<K: Sink + Drop> Holdings<K> {
         if batch.docs.items().is_empty() {
             return Ok(None);
         }
-        match ready_to_begin(self.alloc, &mut self.book, &batch) {
+        match ready_to_begin(self.alloc, &mut self.book, self.places + 1, &batch) {
             Ok(copied) => {
                 self.begun = number;
+                self.places += 1;
                 self.book.add(Event {
                     by,
                     what: Happened::Begun { batch: copied },
@@ -47,12 +49,11 @@ impl<K: Sink + Drop> Holdings<K> {
     pub fn finish(&mut self, by: u32, batch: &Batch, outcomes: Outcomes) -> Result<(), CoreFault>
         requires may { CanFinish self.old.sheet.events by batch.now outcomes }
         requires done { All IsDone outcomes }
-        ensures ok { OnOk result (Makes self.old self.new
-            (event by (Happened.BatchDone batch.now.number outcomes))) }
-        ensures refused { IfErr result (Halts self.old self.new
-            (event by (Happened.BatchDone batch.now.number outcomes))) }
+        ensures step { Tries self.old self.new
+            (event by (Happened.BatchDone batch.now.number outcomes)) result }
     {
-        self.book.prepare(done_bytes(outcomes.items()))?;
+        self.book
+            .prepare(self.places, done_bytes(outcomes.items()))?;
         let entries = entries_of(self.alloc, outcomes.items(), &self.noise)?;
         make_places(self.alloc, &mut self.documents, batch.docs.items())?;
         serve_all(
@@ -62,6 +63,7 @@ impl<K: Sink + Drop> Holdings<K> {
             entries,
         );
         self.changes.give_back(batch);
+        self.places -= 1;
         self.book.add(Event {
             by,
             what: Happened::BatchDone {
@@ -71,20 +73,37 @@ impl<K: Sink + Drop> Holdings<K> {
         });
         Ok(())
     }
+
+    /// The batch is out no more, and none of its documents was tried. Its event takes the room that
+    /// was made when it began.
+    pub fn give_back(&mut self, by: u32, batch: &Batch)
+        requires { MayEnd self.old.sheet.events by batch.now.number batch.now }
+        ensures { Ends self.old self.new (event by (Happened.Returned batch.now.number)) }
+    {
+        self.changes.give_back(batch);
+        self.places -= 1;
+        self.book.add(Event {
+            by,
+            what: Happened::Returned {
+                number: batch.number,
+            },
+        });
+    }
 }
 
-// A copy of the batch, and room for the event that tells of it.
+// A copy of the batch, and room for the event that tells of it beside `places` less one.
 fn ready_to_begin<K: Sink + Drop>(
     alloc: Global,
     book: &mut Book<K>,
+    places: usize,
     batch: &Batch,
 ) -> Result<Batch, CoreFault>
     ensures batch { IfOk result (λ copied. copied ≡ batch.now) }
     ensures ok { let bytes = capped (event_bytes (Happened.Begun batch.now)) in
-        OnOk result (IsReady book.old book.new bytes) }
+        OnOk result (IsReady book.old book.new places bytes) }
     ensures refused { let bytes = capped (event_bytes (Happened.Begun batch.now)) in
         IfErr result (LacksRoom book.old book.new bytes) }
 {
-    book.prepare(begun_bytes(batch.docs.items()))?;
+    book.prepare(places, begun_bytes(batch.docs.items()))?;
     Ok(batch.copy(alloc)?)
 }

@@ -1,7 +1,7 @@
-ghost use Rattle.std.specs.Prelude.{◌≡◌, ◌≢◌, ◌≤◌, ◌+◌, ℕ, [], OnOk, OnErr, IfOk, IfErr};
+ghost use Rattle.std.specs.Prelude.{◌≡◌, ◌≢◌, ◌≤◌, ◌<◌, ◌+◌, ◌^◌, ◌∷◌, ℕ, [], OnOk, OnErr, IfOk, IfErr};
 ghost use Rattle.ci_journal.specs.Bytes.{event_bytes, journal_bytes};
-ghost use Rattle.ci_journal.specs.Printed.{lines_of};
-ghost use Rattle.ci_core.specs.Changes.{Adds, Enters, Writes, CutsOff, LacksRoom, IsReady};
+ghost use Rattle.ci_journal.specs.Printed.{lines_of, printed};
+ghost use Rattle.ci_core.specs.Changes.{Puts, Enters, Writes, CutsOff, LacksRoom, IsReady};
 ghost use Rattle.ci_core.specs.declared.settings.TheConstants.{JOURNAL_MOST};
 
 use crate::CoreFault;
@@ -54,42 +54,45 @@ impl<K: Sink + Drop> Book<K> {
         }
     }
 
-    /// Makes sure that an event of `more` bytes can be added.
-    pub fn prepare(&mut self, more: u64) -> Result<(), CoreFault>
-        ensures ok { OnOk result (IsReady self.old self.new more) }
+    /// Makes sure that events of `more` bytes can be added, and room for `places` events. Ends of
+    /// batches may have passed the bound before.
+    pub fn prepare(&mut self, places: usize, more: u64) -> Result<(), CoreFault>
+        ensures ok { OnOk result (IsReady self.old self.new places more) }
         ensures refused { IfErr result (LacksRoom self.old self.new more) }
     {
-        if self.limit - self.used < more {
+        if self.limit < self.used || self.limit - self.used < more {
             return Err(CoreFault::JournalFull {
                 used: self.used,
                 more,
             });
         }
-        self.journal.reserve(1)?;
+        self.journal.reserve(places)?;
         Ok(())
     }
 
     /// Adds an event that prints nothing, in the room that was made for it.
     pub fn add(&mut self, event: Event)
         requires room { self.old.spare ≢ 0 }
-        requires fits { journal_bytes self.old.events + event_bytes event.what ≤ self.old.limit }
+        requires counted { journal_bytes self.old.events + event_bytes event.what < 2 ^ 64 }
         requires silent { lines_of event.what ≡ [] }
-        ensures { Adds self.old self.new event }
+        ensures { Puts self.old self.new event }
     {
         self.used += event.bytes();
         self.journal.add(event);
     }
 
-    /// Adds an event whose lines are to be printed next, and gives them.
-    pub fn enter(&mut self, alloc: Global, event: Event) -> Result<Text8, CoreFault>
-        ensures ok { OnOk result (Enters self.old self.new event) }
+    /// Adds an event whose lines are to be printed next, and gives them. Beside it there is room for
+    /// `places` events less one.
+    pub fn enter(&mut self, alloc: Global, places: usize, event: Event) -> Result<Text8, CoreFault>
+        requires { places ≢ 0 }
+        ensures ok { OnOk result (Enters self.old self.new places event) }
         ensures lines { IfOk result (λ text. text ≡ lines_of event.what) }
         ensures refused { IfErr result (LacksRoom self.old self.new (event_bytes event.what)) }
     {
         // What the type says of the bound is known once a field is looked at.
         let _limit = &self.limit;
         let more = event.bytes();
-        self.prepare(more)?;
+        self.prepare(places, more)?;
         let lines = event.lines(alloc)?;
         self.used += more;
         self.journal.add(event);

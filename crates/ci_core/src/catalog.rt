@@ -1,12 +1,12 @@
-ghost use Rattle.std.specs.Prelude.{◌≡◌, ◌≤◌, ◌-◌, [], None, length, map, IfOk, IfErr, IfSome};
+ghost use Rattle.std.specs.Prelude.{◌≡◌, ◌↔◌, ◌-◌, [], None, true, length, map, IfOk, IfErr, IfSome};
 ghost use Rattle.std.specs.FinMap.{entries};
 ghost use Rattle.std.specs.Option.{option_copied, option_map};
 ghost use Rattle.ci_change.specs.Pending.{ListsByPath};
-ghost use Rattle.ci_journal.specs.Bytes.{journal_bytes};
 ghost use Rattle.ci_journal.specs.Folds.{requests_in, is_replied, reply_numbers};
 ghost use Rattle.ci_journal.specs.Pending.{pending};
 ghost use Rattle.ci_journal.specs.Served.{live_map};
-ghost use Rattle.ci_journal.specs.Step.{Run};
+ghost use Rattle.ci_journal.specs.Step.{MayAnswer, MaySay, Run};
+ghost use Rattle.ci_core.specs.Book.{IsWithin};
 ghost use Rattle.ci_core.specs.Catalog.{IsCaused, NumbersAfter};
 ghost use Rattle.ci_core.specs.Core.{terms_of};
 ghost use Rattle.ci_core.specs.Fixed.{HasFixed};
@@ -86,11 +86,27 @@ impl<K: Sink + Drop> Catalog<K> {
         self.holdings.waiting()
     }
 
+    /// Whether the request was asked and has no reply.
+    pub fn can_say(&self, id: u64) -> bool
+        ensures { (result ≡ true) ↔ MaySay self.now.sheet.events id }
+    {
+        self.holdings.can_say(id)
+    }
+
     /// Whether the request was asked and has its reply.
     pub fn replied(&self, id: u64) -> bool
         ensures { result ≡ is_replied self.now.sheet.events id }
     {
         self.holdings.replied(id)
+    }
+
+    /// Whether these paths answer a query that was opened right before the place, and that has no
+    /// reply.
+    pub fn can_answer(&self, id: u64, at: u64, paths: &Paths) -> Result<bool, OutOfMemory>
+        ensures { IfOk result (λ can. (can ≡ true)
+            ↔ MayAnswer self.now.terms self.now.sheet.events id at paths.now) }
+    {
+        self.holdings.can_answer(id, at, paths)
     }
 
     /// Why the first step that was refused was so. None where no step was.
@@ -113,12 +129,13 @@ impl<K: Sink + Drop> Catalog<K> {
     }
 
     /// The journal of a session that found nothing, which is a run of steps. It is within its bound,
-    /// and the numbered paths are those that it notes, unless memory was wanted.
+    /// but for ends of batches, and the numbered paths are those that it notes, unless memory was
+    /// wanted.
     pub fn journal(&self) -> &Journal
         ensures events { result.now.list ≡ self.now.sheet.events }
         ensures run { Run self.now.terms result.now.list }
         ensures starts { StartsEmpty self.now.terms }
-        ensures within { journal_bytes result.now.list ≤ self.now.sheet.limit }
+        ensures within { IsWithin self.now.sheet.limit result.now.list }
         ensures numbered { NumbersAfter self.now self.now.refusal }
     {
         self.holdings.journal()
@@ -138,7 +155,7 @@ impl<K: Sink + Drop> Catalog<K> {
         ensures written { K.written result.sink ≡ self.sheet.written }
         ensures faults { K.faults result.sink ≡ self.sheet.faults }
         ensures run { Run self.terms result.journal.list }
-        ensures within { journal_bytes result.journal.list ≤ self.sheet.limit }
+        ensures within { IsWithin self.sheet.limit result.journal.list }
     {
         let (journal, sink) = self.holdings.close();
         Closed { journal, sink }

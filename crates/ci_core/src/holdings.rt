@@ -1,10 +1,10 @@
-ghost use Rattle.std.specs.Prelude.{◌≡◌, ◌≤◌, []};
-ghost use Rattle.ci_journal.specs.Bytes.{journal_bytes};
+ghost use Rattle.std.specs.Prelude.{◌≡◌, []};
 ghost use Rattle.ci_journal.specs.Step.{Run};
+ghost use Rattle.ci_core.specs.Book.{IsWithin};
 ghost use Rattle.ci_core.specs.Core.{terms_of};
 ghost use Rattle.ci_core.specs.Kept.{StartsEmpty};
 
-use crate::{Book, Replied, Settings, Waiting};
+use crate::{Book, Question, Replied, Settings, Waiting};
 use ci_change::ChangeList;
 use ci_documents::Documents;
 use ci_io::Sink;
@@ -18,8 +18,8 @@ use std::marker::Model;
 /// How often a document is to be tried.
 const RETRIES: u32 = 4;
 
-/// The documents, the notices of them that are pending, the queries that wait, and the journal of
-/// what happened to them, with the sink that replies are printed to.
+/// The documents, the notices of them that are pending, the queries that wait or are open, and the
+/// journal of what happened to them, with the sink that replies are printed to.
 #[derive(Drop)]
 pub struct Holdings<K: Sink + Drop> {
     pub(crate) alloc: Global,
@@ -30,11 +30,16 @@ pub struct Holdings<K: Sink + Drop> {
     pub(crate) changes: ChangeList,
     pub(crate) numbers: Numbers,
     pub(crate) waiting: VecDeque<Waiting>,
+    pub(crate) questions: Vec<Question>,
     pub(crate) replied: Replied,
     pub(crate) requests: u64,
     pub(crate) replies: u64,
     pub(crate) noted: u64,
     pub(crate) begun: u64,
+    /// One place for the next event, and one for the end of each batch that is out.
+    pub(crate) places: usize,
+    /// The starts of the daemon that failed since the last that came.
+    pub(crate) failed: u64,
 }
 
 impl<K: Sink + Drop> Model for Holdings<K> {
@@ -57,11 +62,14 @@ impl<K: Sink + Drop> Model for Holdings<K> {
           documents = h.documents.entries;
           changes = h.changes;
           waiting = h.waiting.items;
+          questions = h.questions.items;
           marks = h.replied;
           requests = h.requests;
           replies = h.replies;
           noted = h.noted;
           begun = h.begun;
+          places = h.places;
+          failed = h.failed;
         }) };
 }
 
@@ -86,11 +94,14 @@ impl<K: Sink + Drop> Holdings<K> {
             changes: ChangeList::new(alloc, RETRIES),
             numbers: Numbers::new(alloc, settings.documents),
             waiting: VecDeque::new(alloc),
+            questions: Vec::new(alloc),
             replied: Replied::new(alloc),
             requests: 0,
             replies: 0,
             noted: 0,
             begun: 0,
+            places: 1,
+            failed: 0,
         }
     }
 
@@ -98,7 +109,7 @@ impl<K: Sink + Drop> Holdings<K> {
         ensures events { result.now.list ≡ self.now.sheet.events }
         ensures run { Run self.now.terms result.now.list }
         ensures starts { StartsEmpty self.now.terms }
-        ensures within { journal_bytes result.now.list ≤ self.now.sheet.limit }
+        ensures within { IsWithin self.now.sheet.limit result.now.list }
     {
         self.book.journal()
     }
@@ -117,7 +128,7 @@ impl<K: Sink + Drop> Holdings<K> {
         ensures written { K.written result.1 ≡ self.sheet.written }
         ensures faults { K.faults result.1 ≡ self.sheet.faults }
         ensures run { Run self.terms result.0.list }
-        ensures within { journal_bytes result.0.list ≤ self.sheet.limit }
+        ensures within { IsWithin self.sheet.limit result.0.list }
     {
         self.book.close()
     }

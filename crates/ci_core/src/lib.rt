@@ -1,6 +1,7 @@
 //! The catalogue: documents, the journal of what happened to them, and the steps that add to it.
 #![tactic(auto)]
 
+mod answering;
 mod asking;
 mod batch_steps;
 mod batches;
@@ -8,6 +9,8 @@ mod book;
 mod catalog;
 mod closed;
 mod core_fault;
+mod daemon;
+mod daemon_steps;
 mod holdings;
 mod no_catalog;
 mod noting;

@@ -1,10 +1,9 @@
-ghost use Rattle.std.specs.Prelude.{◌≡◌, ◌≤◌, ◌+◌, ◌&&◌, false, length, nat_le, not, IfOk, IfErr, OnOk, IsErrOf};
+ghost use Rattle.std.specs.Prelude.{◌≡◌, ◌≤◌, ◌+◌, ◌&&◌, false, length, nat_le, not, IfOk, IsErrOf};
 ghost use Rattle.ci_journal.specs.Folds.{is_numbered, next_notice};
 ghost use Rattle.ci_journal.specs.Step.{MayPut, MayErase};
 ghost use Rattle.ci_journal.specs.Tells.{event};
 ghost use Rattle.ci_core.specs.Changes.{noted};
-ghost use Rattle.ci_core.specs.Refusals.{Halts};
-ghost use Rattle.ci_core.specs.Steps.{Makes};
+ghost use Rattle.ci_core.specs.Refusals.{Tries};
 
 use crate::{CoreFault, Holdings};
 use ci_base::{PathText, Seq};
@@ -20,9 +19,8 @@ impl<K: Sink + Drop> Holdings<K> {
     pub fn note(&mut self, by: u32, path: &PathText, what: What) -> Result<Seq, CoreFault>
         requires { by ≡ 0 }
         ensures seq { IfOk result (λ seq. seq.0 ≡ next_notice self.old.terms self.old.sheet.events) }
-        ensures ok { IfOk result (λ seq. Makes self.old self.new (noted by path.now seq.0 what)) }
-        ensures refused { let number = next_notice self.old.terms self.old.sheet.events in
-            IfErr result (Halts self.old self.new (noted by path.now number what)) }
+        ensures step { let number = next_notice self.old.terms self.old.sheet.events in
+            Tries self.old self.new (noted by path.now number what) result }
 
         // Too many documents are told exactly where the path is new, and no more may come.
         ensures crowded { is_numbered self.old.numbered path.now ≡ false →
@@ -33,7 +31,7 @@ impl<K: Sink + Drop> Holdings<K> {
             return Err(CoreFault::TooManyDocuments);
         }
         let seq = Seq(self.noted + 1);
-        self.book.prepare(noted_bytes(path))?;
+        self.book.prepare(self.places, noted_bytes(path))?;
         let copied = path.copy(self.alloc)?;
         self.numbers.number(path)?;
         self.changes.note(path, seq, what)?;
@@ -69,12 +67,11 @@ impl<K: Sink + Drop> Holdings<K> {
     ) -> Result<(), CoreFault>
         requires { MayPut self.old.terms self.old.sheet.events by
             (record { path = path.now; seq = seq; what = What.Changed }) }
-        ensures ok { OnOk result
-            (Makes self.old self.new (event by (Happened.Put path.now seq transcript))) }
-        ensures refused { IfErr result
-            (Halts self.old self.new (event by (Happened.Put path.now seq transcript))) }
+        ensures step { Tries self.old self.new
+            (event by (Happened.Put path.now seq transcript)) result }
     {
-        self.book.prepare(put_bytes(path, &transcript))?;
+        self.book
+            .prepare(self.places, put_bytes(path, &transcript))?;
         let entry = entry_of(self.alloc, &transcript, &self.noise)?;
         let entry = SharedEntry::new(self.alloc, entry)?;
         let copied = path.copy(self.alloc)?;
@@ -96,12 +93,9 @@ impl<K: Sink + Drop> Holdings<K> {
     /// The document is taken away under the number of its deletion, which is pending.
     pub fn erase(&mut self, by: u32, path: &PathText, seq: Seq) -> Result<(), CoreFault>
         requires { MayErase self.old.terms self.old.sheet.events path.now seq }
-        ensures ok { OnOk result
-            (Makes self.old self.new (event by (Happened.Erased path.now seq))) }
-        ensures refused { IfErr result
-            (Halts self.old self.new (event by (Happened.Erased path.now seq))) }
+        ensures step { Tries self.old self.new (event by (Happened.Erased path.now seq)) result }
     {
-        self.book.prepare(erased_bytes(path))?;
+        self.book.prepare(self.places, erased_bytes(path))?;
         let copied = path.copy(self.alloc)?;
         self.changes.served(path, seq)?;
         take_away(&mut self.documents, path);

@@ -3,7 +3,7 @@ ghost use Rattle.ci_journal.specs.Served.{hits_in};
 
 use ci_base::OutOfMemory;
 use ci_dialect::Restriction;
-use ci_documents::Plain;
+use ci_documents::SharedPlain;
 use ci_journal::Paths;
 use std::alloc::Global;
 
@@ -16,7 +16,7 @@ pub struct Question {
     pub at: u64,
     pub tree: Restriction,
     /// The documents at that point.
-    pub plain: Plain,
+    pub plain: SharedPlain,
 }
 
 impl Question {
@@ -27,7 +27,7 @@ impl Question {
         self.plain.hits(alloc, &self.tree)
     }
 
-    /// Another question that equals this one; the entries of its documents are shared.
+    /// Another question that equals this one; its documents are shared.
     pub fn copy(&self, alloc: Global) -> Result<Question, OutOfMemory>
         ensures { IfOk result (λ question. question ≡ self.now) }
     {
@@ -35,7 +35,7 @@ impl Question {
             id: self.id,
             at: self.at,
             tree: self.tree.copy(alloc)?,
-            plain: self.plain.copy(alloc)?,
+            plain: self.plain.share()?,
         })
     }
 }

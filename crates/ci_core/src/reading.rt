@@ -1,4 +1,4 @@
-ghost use Rattle.std.specs.Prelude.{◌≡◌, ◌+◌, ◌-◌, length, map, IfOk, IfNone, IfSome};
+ghost use Rattle.std.specs.Prelude.{◌≡◌, ◌↔◌, ◌+◌, ◌-◌, true, length, map, IfOk, IfNone, IfSome};
 ghost use Rattle.std.specs.FinMap.{entries};
 ghost use Rattle.ci_base.specs.declared.numbers.Seq.{Seq};
 ghost use Rattle.ci_change.specs.Pending.{ListsByPath};
@@ -6,7 +6,7 @@ ghost use Rattle.ci_journal.specs.Folds.{requests_in, next_notice, is_replied, r
 ghost use Rattle.ci_journal.specs.Pending.{pending};
 ghost use Rattle.ci_journal.specs.Queries.{IsFirstWaiting};
 ghost use Rattle.ci_journal.specs.Served.{live_map};
-ghost use Rattle.ci_journal.specs.Step.{MayErase};
+ghost use Rattle.ci_journal.specs.Step.{MayErase, MaySay};
 ghost use Rattle.ci_dialect.specs.declared.restriction.Restriction.{Restriction as Tree};
 ghost use Rattle.ci_core.specs.Opening.{NoneWaits};
 
@@ -78,6 +78,13 @@ impl<K: Sink + Drop> Holdings<K> {
             ≡ length (requests_in self.now.sheet.events) - length (reply_numbers self.now.sheet.events) }
     {
         self.requests.saturating_sub(self.replies)
+    }
+
+    /// Whether the request was asked and has no reply.
+    pub fn can_say(&self, id: u64) -> bool
+        ensures { (result ≡ true) ↔ MaySay self.now.sheet.events id }
+    {
+        id != 0 && id <= self.requests && !self.replied.has(id)
     }
 
     /// Whether the request was asked and has its reply.

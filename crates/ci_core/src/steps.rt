@@ -7,8 +7,8 @@ ghost use Rattle.ci_core.specs.Changes.{noted};
 ghost use Rattle.ci_core.specs.Erasing.{Erases, RefusesErasing};
 ghost use Rattle.ci_core.specs.Fixed.{KeepsFixed};
 ghost use Rattle.ci_core.specs.Opening.{OpensFirst, RefusesOpening};
-ghost use Rattle.ci_core.specs.Refusals.{IsOver, Refuses};
-ghost use Rattle.ci_core.specs.Steps.{IsUnrefused, Makes};
+ghost use Rattle.ci_core.specs.Refusals.{IsOver, IsStep};
+ghost use Rattle.ci_core.specs.Steps.{IsUnrefused};
 
 use crate::refusal::keep;
 use crate::{Catalog, CoreFault, Question, Tried};
@@ -24,11 +24,8 @@ impl<K: Sink + Drop> Catalog<K> {
         ensures id { IfOk result (λ id. id ≡ length (requests_in self.old.sheet.events) + 1) }
         ensures unreplied { IfOk result (λ id. is_replied self.new.sheet.events id ≡ false) }
         ensures unopened { IfOk result (λ id. is_opened self.new.sheet.events id ≡ false) }
-        ensures ok { IfOk result (λ id.
-            Makes self.old self.new (event by (Happened.Asked id request))) }
-        ensures unrefused { OnOk result (IsUnrefused self.old self.new) }
-        ensures refused { let id = length (requests_in self.old.sheet.events) + 1 in
-            IfErr result (Refuses self.old self.new (event by (Happened.Asked id request))) }
+        ensures step { let id = length (requests_in self.old.sheet.events) + 1 in
+            IsStep self.old self.new (event by (Happened.Asked id request)) result }
         ensures fixed { KeepsFixed self.old self.new }
     {
         let at = self.place()?;
@@ -41,10 +38,8 @@ impl<K: Sink + Drop> Catalog<K> {
     pub fn note(&mut self, by: u32, path: &PathText, what: What) -> Result<Seq, CoreFault>
         requires { by ≡ 0 }
         ensures seq { IfOk result (λ seq. seq.0 ≡ next_notice self.old.terms self.old.sheet.events) }
-        ensures ok { IfOk result (λ seq. Makes self.old self.new (noted by path.now seq.0 what)) }
-        ensures unrefused { OnOk result (IsUnrefused self.old self.new) }
-        ensures refused { let number = next_notice self.old.terms self.old.sheet.events in
-            IfErr result (Refuses self.old self.new (noted by path.now number what)) }
+        ensures step { let number = next_notice self.old.terms self.old.sheet.events in
+            IsStep self.old self.new (noted by path.now number what) result }
         ensures fixed { KeepsFixed self.old self.new }
 
         // Too many documents are told exactly where the path is new, and no more may come.
@@ -69,11 +64,8 @@ impl<K: Sink + Drop> Catalog<K> {
     ) -> Result<(), CoreFault>
         requires { MayPut self.old.terms self.old.sheet.events by
             (record { path = path.now; seq = seq; what = What.Changed }) }
-        ensures ok { OnOk result
-            (Makes self.old self.new (event by (Happened.Put path.now seq transcript))) }
-        ensures unrefused { OnOk result (IsUnrefused self.old self.new) }
-        ensures refused { IfErr result
-            (Refuses self.old self.new (event by (Happened.Put path.now seq transcript))) }
+        ensures step { IsStep self.old self.new
+            (event by (Happened.Put path.now seq transcript)) result }
         ensures fixed { KeepsFixed self.old self.new }
     {
         let at = self.place()?;
@@ -118,11 +110,8 @@ impl<K: Sink + Drop> Catalog<K> {
     /// The hits of a query that is open are printed.
     pub fn answer(&mut self, by: u32, id: u64, at: u64, paths: Paths) -> Result<(), CoreFault>
         requires { MayAnswer self.old.terms self.old.sheet.events id at paths }
-        ensures ok { OnOk result
-            (Makes self.old self.new (event by (Happened.Answered id at paths))) }
-        ensures unrefused { OnOk result (IsUnrefused self.old self.new) }
-        ensures refused { IfErr result
-            (Refuses self.old self.new (event by (Happened.Answered id at paths))) }
+        ensures step { IsStep self.old self.new
+            (event by (Happened.Answered id at paths)) result }
         ensures fixed { KeepsFixed self.old self.new }
     {
         let place = self.place()?;
@@ -134,10 +123,7 @@ impl<K: Sink + Drop> Catalog<K> {
     /// The reply to a request is printed.
     pub fn say(&mut self, by: u32, id: u64, reply: Reply) -> Result<(), CoreFault>
         requires { MaySay self.old.sheet.events id }
-        ensures ok { OnOk result (Makes self.old self.new (event by (Happened.Said id reply))) }
-        ensures unrefused { OnOk result (IsUnrefused self.old self.new) }
-        ensures refused { IfErr result
-            (Refuses self.old self.new (event by (Happened.Said id reply))) }
+        ensures step { IsStep self.old self.new (event by (Happened.Said id reply)) result }
         ensures fixed { KeepsFixed self.old self.new }
     {
         let at = self.place()?;

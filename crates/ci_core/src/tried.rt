@@ -21,6 +21,8 @@ enum Attempt {
     Noted(Snapshot<PathText>, Seq, What),
     Put(Snapshot<PathText>, Seq, Snapshot<Transcript>),
     Erased(Snapshot<PathText>, Seq),
+    Started,
+    StartFailed,
     Begun(Snapshot<Batch>),
     BatchDone(u64, Snapshot<Outcomes>),
     Opened(u64),
@@ -69,6 +71,22 @@ impl Tried {
     {
         Tried {
             attempt: Attempt::Erased(Snapshot::of(path), seq),
+        }
+    }
+
+    pub fn started() -> Tried
+        ensures { result ≡ Happened.Started }
+    {
+        Tried {
+            attempt: Attempt::Started,
+        }
+    }
+
+    pub fn start_failed() -> Tried
+        ensures { result ≡ Happened.StartFailed }
+    {
+        Tried {
+            attempt: Attempt::StartFailed,
         }
     }
 

@@ -4,9 +4,11 @@
 mod documents;
 mod plain;
 mod shared_entry;
+mod shared_plain;
 mod standing;
 
 pub use documents::{Documents, make_place, paths_of, plain_list, serve, take_away};
 pub use plain::Plain;
 pub use shared_entry::SharedEntry;
+pub use shared_plain::SharedPlain;
 pub use standing::Standing;

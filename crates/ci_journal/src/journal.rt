@@ -34,9 +34,10 @@ impl Journal {
         }
     }
 
-    /// Makes room for `more` events.
+    /// Makes room for `more` events. Room that was there stays.
     pub fn reserve(&mut self, more: usize) -> Result<(), OutOfMemory>
         ensures events { self.new.list ≡ self.old.list }
+        ensures spare { self.old.spare ≤ self.new.spare }
         ensures ok { OnOk result (more ≤ self.new.spare) }
     {
         self.events.reserve(more)?;

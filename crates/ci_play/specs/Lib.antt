@@ -1,6 +1,5 @@
 pub mod Apart
 pub mod Latest
 pub mod Played
-pub mod Replay
 pub mod Steps
 pub mod Told

@@ -1,9 +1,7 @@
-ghost use Rattle.std.specs.Prelude.{◌≡◌, ◌↔◌, true, slice_get, Contains};
-ghost use Rattle.std.specs.Option.{option_copied};
+ghost use Rattle.std.specs.Prelude.{◌≡◌, ◌↔◌, true, Contains};
 ghost use Rattle.ci_journal.specs.declared.event.Happened.TheVariants.{Begun};
 ghost use Rattle.ci_journal.specs.Filings.{out};
 ghost use Rattle.ci_journal.specs.Tells.{event};
-ghost use Rattle.ci_play.specs.Replay.{begun_as};
 
 use crate::same::is_same;
 use crate::told::{batch_in, is_out_behind};
@@ -40,18 +38,4 @@ fn tells_begun(told: &Event, by: u32, batch: &Batch) -> bool
         Some(begun) => told.by == by && is_same(begun, batch),
         None => false,
     }
-}
-
-/// The batch that was begun under this number, if one was.
-pub fn batch_begun(journal: &[Event], number: u64) -> Option<&Batch>
-    ensures { option_copied result ≡ slice_get (begun_as journal.now number) 0 }
-{
-    for event in journal {
-        if let Some(batch) = batch_in(&event.what) {
-            if batch.number == number {
-                return Some(batch);
-            }
-        }
-    }
-    None
 }

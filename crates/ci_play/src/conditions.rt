@@ -1,18 +1,14 @@
-ghost use Rattle.std.specs.Prelude.{◌≡◌, ◌↔◌, true, All, length, IfOk};
+ghost use Rattle.std.specs.Prelude.{◌≡◌, ◌↔◌, true, All};
 ghost use Rattle.ci_change.specs.declared.notice.What.{What};
-ghost use Rattle.ci_journal.specs.Folds.{requests_in};
-ghost use Rattle.ci_journal.specs.Step.{MayPut, MaySay};
+ghost use Rattle.ci_journal.specs.Step.{MayEnd, MayPut};
 ghost use Rattle.ci_journal.specs.Terms.{Terms, empty_beginning};
 ghost use Rattle.ci_core.specs.Batches.{CanFinish};
 ghost use Rattle.ci_core.specs.Serving.{IsDone};
 
 use crate::batch_out::{is_begun_by, is_out};
 use crate::latest::is_latest_change;
-use crate::told::request_in;
 use ci_base::{PathText, Seq};
 use ci_change::Batch;
-use ci_core::Catalog;
-use ci_io::Sink;
 use ci_journal::{Event, Outcome, Outcomes};
 
 pub fn can_put(events: &[Event], by: u32, path: &PathText, seq: Seq) -> bool
@@ -52,21 +48,8 @@ fn is_done(outcome: &Outcome) -> bool
     matches!(outcome, Outcome::Done(_))
 }
 
-pub fn can_say<K: Sink + Drop>(catalog: &Catalog<K>, id: u64) -> bool
-    ensures { (result ≡ true) ↔ MaySay catalog.now.sheet.events id }
+pub fn can_return(events: &[Event], by: u32, batch: &Batch) -> bool
+    ensures { (result ≡ true) ↔ MayEnd events.now by batch.now.number batch.now }
 {
-    0 < id && id <= requests(catalog.journal().events()) && !catalog.replied(id)
-}
-
-// How many requests were asked.
-fn requests(events: &[Event]) -> u64
-    ensures { result ≡ length (requests_in events.now) }
-{
-    let mut count: usize = 0;
-    for event in events {
-        if request_in(&event.what).is_some() {
-            count += 1;
-        }
-    }
-    count as u64
+    is_out(events, batch) && is_begun_by(events, by, batch)
 }

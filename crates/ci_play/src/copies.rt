@@ -25,12 +25,18 @@ impl Step {
                 by: *by,
                 path: path.copy(alloc)?,
             }),
+            Step::Started { by } => Ok(Step::Started { by: *by }),
+            Step::StartFailed { by } => Ok(Step::StartFailed { by: *by }),
             Step::BeginBatch { by, max } => Ok(Step::BeginBatch { by: *by, max: *max }),
             Step::FinishBatch {
                 by,
                 batch,
                 outcomes,
             } => copy_finish(alloc, *by, batch, outcomes),
+            Step::ReturnBatch { by, batch } => Ok(Step::ReturnBatch {
+                by: *by,
+                batch: batch.copy(alloc)?,
+            }),
             Step::OpenQuery { by } => Ok(Step::OpenQuery { by: *by }),
             Step::Answer { by, id, at, paths } => copy_answer(alloc, *by, *id, *at, paths),
             Step::Say { by, id, reply } => copy_say(alloc, *by, *id, reply),

@@ -1,13 +1,11 @@
 //! A list of steps, played one after the other on a catalogue.
 #![tactic(auto)]
 
-mod answerable;
 mod batch_out;
 mod conditions;
 mod copies;
 mod latest;
 mod play;
-mod replay;
 mod same;
 mod standing;
 mod step;

@@ -4,22 +4,16 @@ ghost use Rattle.ci_play.specs.Played.{Plays, Stops};
 ghost use Rattle.ci_play.specs.declared.step.Step.{Step};
 
 use crate::Step;
-use crate::answerable::can_answer;
-use crate::conditions::{can_finish, can_put, can_say};
+use crate::conditions::{can_finish, can_put, can_return};
 use ci_base::{PathText, Seq};
 use ci_change::{Batch, What};
 use ci_chunk::Transcript;
 use ci_core::{Catalog, CoreFault};
 use ci_io::Sink;
 use ci_journal::{Outcomes, Paths, Reply, Request};
-use std::alloc::Global;
 
 /// Plays one step, or passes it over where its condition doesn't hold.
-pub fn play<K: Sink + Drop>(
-    alloc: Global,
-    catalog: &mut Catalog<K>,
-    step: Step,
-) -> Result<(), CoreFault>
+pub fn play<K: Sink + Drop>(catalog: &mut Catalog<K>, step: Step) -> Result<(), CoreFault>
     ensures ok { OnOk result (Plays catalog.old catalog.new step) }
     ensures refused { IfErr result (Stops catalog.old catalog.new step) }
     ensures unrefused { OnOk result (catalog.new.refusal ≡ catalog.old.refusal) }
@@ -35,14 +29,20 @@ pub fn play<K: Sink + Drop>(
             transcript,
         } => play_put(catalog, by, path, seq, transcript),
         Step::Erase { by, path } => play_erase(catalog, by, path),
+        Step::Started { by } => catalog.started(by),
+        Step::StartFailed { by } => play_failed(catalog, by),
         Step::BeginBatch { by, max } => play_begin(catalog, by, max),
         Step::FinishBatch {
             by,
             batch,
             outcomes,
         } => play_finish(catalog, by, batch, outcomes),
+        Step::ReturnBatch { by, batch } => {
+            play_return(catalog, by, batch);
+            Ok(())
+        }
         Step::OpenQuery { by } => play_open(catalog, by),
-        Step::Answer { by, id, at, paths } => play_answer(alloc, catalog, by, id, at, paths),
+        Step::Answer { by, id, at, paths } => play_answer(catalog, by, id, at, paths),
         Step::Say { by, id, reply } => play_say(catalog, by, id, reply),
     }
 }
@@ -113,6 +113,16 @@ fn play_erase<K: Sink + Drop>(
     Ok(())
 }
 
+fn play_failed<K: Sink + Drop>(catalog: &mut Catalog<K>, by: u32) -> Result<(), CoreFault>
+    ensures ok { OnOk result (Plays catalog.old catalog.new (Step.StartFailed by)) }
+    ensures refused { IfErr result (Stops catalog.old catalog.new (Step.StartFailed by)) }
+    ensures unrefused { OnOk result (catalog.new.refusal ≡ catalog.old.refusal) }
+    ensures fixed { KeepsFixed catalog.old catalog.new }
+{
+    catalog.start_failed(by)?;
+    Ok(())
+}
+
 fn play_begin<K: Sink + Drop>(
     catalog: &mut Catalog<K>,
     by: u32,
@@ -148,6 +158,16 @@ fn play_finish<K: Sink + Drop>(
     Ok(())
 }
 
+fn play_return<K: Sink + Drop>(catalog: &mut Catalog<K>, by: u32, batch: Batch)
+    ensures plays { Plays catalog.old catalog.new (Step.ReturnBatch by batch) }
+    ensures refusal { catalog.new.refusal ≡ catalog.old.refusal }
+    ensures fixed { KeepsFixed catalog.old catalog.new }
+{
+    if can_return(catalog.journal().events(), by, &batch) {
+        catalog.return_batch(by, &batch);
+    }
+}
+
 fn play_open<K: Sink + Drop>(catalog: &mut Catalog<K>, by: u32) -> Result<(), CoreFault>
     ensures ok { OnOk result (Plays catalog.old catalog.new (Step.OpenQuery by)) }
     ensures refused { IfErr result (Stops catalog.old catalog.new (Step.OpenQuery by)) }
@@ -159,7 +179,6 @@ fn play_open<K: Sink + Drop>(catalog: &mut Catalog<K>, by: u32) -> Result<(), Co
 }
 
 fn play_answer<K: Sink + Drop>(
-    alloc: Global,
     catalog: &mut Catalog<K>,
     by: u32,
     id: u64,
@@ -172,7 +191,7 @@ fn play_answer<K: Sink + Drop>(
     ensures unrefused { OnOk result (catalog.new.refusal ≡ catalog.old.refusal) }
     ensures fixed { KeepsFixed catalog.old catalog.new }
 {
-    if can_answer(alloc, catalog, id, at, &paths)? {
+    if catalog.can_answer(id, at, &paths)? {
         catalog.answer(by, id, at, paths)?;
     }
     Ok(())
@@ -189,7 +208,7 @@ fn play_say<K: Sink + Drop>(
     ensures unrefused { OnOk result (catalog.new.refusal ≡ catalog.old.refusal) }
     ensures fixed { KeepsFixed catalog.old catalog.new }
 {
-    if can_say(catalog, id) {
+    if catalog.can_say(id) {
         catalog.say(by, id, reply)?;
     }
     Ok(())

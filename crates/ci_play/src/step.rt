@@ -25,6 +25,12 @@ pub enum Step {
         by: u32,
         path: PathText,
     },
+    Started {
+        by: u32,
+    },
+    StartFailed {
+        by: u32,
+    },
     BeginBatch {
         by: u32,
         max: usize,
@@ -33,6 +39,10 @@ pub enum Step {
         by: u32,
         batch: Batch,
         outcomes: Outcomes,
+    },
+    ReturnBatch {
+        by: u32,
+        batch: Batch,
     },
     OpenQuery {
         by: u32,

@@ -10,10 +10,9 @@ use crate::Step;
 use crate::play::play;
 use ci_core::{Catalog, CoreFault};
 use ci_io::Sink;
-use std::alloc::Global;
 
 /// Plays the steps in order. One whose condition doesn't hold is passed over. At the first that is
-/// refused the rest are left, and its fault is answered. Memory comes from where the steps' does.
+/// refused the rest are left, and its fault is answered.
 pub fn run_core<K: Sink + Drop>(catalog: &mut Catalog<K>, steps: Vec<Step>) -> Result<(), CoreFault>
     ensures ok { OnOk result (Played catalog.old steps.items catalog.new) }
     ensures refused { IfErr result (PlayedUntil catalog.old steps.items catalog.new) }
@@ -23,24 +22,19 @@ pub fn run_core<K: Sink + Drop>(catalog: &mut Catalog<K>, steps: Vec<Step>) -> R
     ensures answers { AllAnswer catalog.new.terms catalog.new.sheet.events }
     ensures apart { AreApart (out catalog.new.sheet.events) }
 {
-    let alloc = *steps.allocator();
-    let played = play_all(alloc, catalog, steps);
+    let played = play_all(catalog, steps);
     tell_run(catalog);
     played
 }
 
-fn play_all<K: Sink + Drop>(
-    alloc: Global,
-    catalog: &mut Catalog<K>,
-    steps: Vec<Step>,
-) -> Result<(), CoreFault>
+fn play_all<K: Sink + Drop>(catalog: &mut Catalog<K>, steps: Vec<Step>) -> Result<(), CoreFault>
     ensures ok { OnOk result (Played catalog.old steps.items catalog.new) }
     ensures refused { IfErr result (PlayedUntil catalog.old steps.items catalog.new) }
     ensures unrefused { OnOk result (catalog.new.refusal ≡ catalog.old.refusal) }
     ensures fixed { KeepsFixed catalog.old catalog.new }
 {
     for step in steps {
-        play(alloc, catalog, step)?;
+        play(catalog, step)?;
     }
     Ok(())
 }

@@ -6,33 +6,7 @@ ghost use Rattle.ci_play.specs.Told.{batch_of, out_behind};
 
 use crate::same::is_same;
 use ci_change::{Batch, Notice};
-use ci_journal::{Happened, Request};
-
-/// The request that is asked, if one is.
-pub fn request_in(what: &Happened) -> Option<&Request>
-    ensures { option_copied result ≡ (tells what.now).request }
-{
-    match what {
-        Happened::Asked { request, .. } => Some(request),
-        Happened::Noted { .. } => None,
-        Happened::Put { .. } => None,
-        Happened::Erased { .. } => None,
-        Happened::Started => None,
-        Happened::StartFailed => None,
-        Happened::DaemonLost => None,
-        Happened::Begun { .. } => None,
-        Happened::BatchDone { .. } => None,
-        Happened::BatchDied { .. } => None,
-        Happened::Returned { .. } => None,
-        Happened::Shadowed => None,
-        Happened::MasterBegun => None,
-        Happened::MasterStep { .. } => None,
-        Happened::MasterEnded => None,
-        Happened::Opened { .. } => None,
-        Happened::Answered { .. } => None,
-        Happened::Said { .. } => None,
-    }
-}
+use ci_journal::Happened;
 
 /// The notice that is noted, if one is.
 pub fn notice_in(what: &Happened) -> Option<&Notice>
@@ -81,32 +55,6 @@ pub fn batch_in(what: &Happened) -> Option<&Batch>
         Happened::MasterStep { .. } => None,
         Happened::MasterEnded => None,
         Happened::Opened { .. } => None,
-        Happened::Answered { .. } => None,
-        Happened::Said { .. } => None,
-    }
-}
-
-/// The number of the query that is opened, if one is.
-pub fn opening_in(what: &Happened) -> Option<u64>
-    ensures { result ≡ (tells what.now).opening }
-{
-    match what {
-        Happened::Asked { .. } => None,
-        Happened::Noted { .. } => None,
-        Happened::Put { .. } => None,
-        Happened::Erased { .. } => None,
-        Happened::Started => None,
-        Happened::StartFailed => None,
-        Happened::DaemonLost => None,
-        Happened::Begun { .. } => None,
-        Happened::BatchDone { .. } => None,
-        Happened::BatchDied { .. } => None,
-        Happened::Returned { .. } => None,
-        Happened::Shadowed => None,
-        Happened::MasterBegun => None,
-        Happened::MasterStep { .. } => None,
-        Happened::MasterEnded => None,
-        Happened::Opened { id } => Some(*id),
         Happened::Answered { .. } => None,
         Happened::Said { .. } => None,
     }

@@ -77,7 +77,8 @@ fn the_first_refusal_ends_it(rt: HostRuntime) -> Result<(), Fail> {
 #[test]
 fn behind_a_refusal_it_has_ended(rt: HostRuntime) -> Result<(), Fail> {
     let alloc = rt.alloc();
-    let ended = play_both(alloc, 1, crowded(alloc)?, crowded(alloc)?)?;
-    assert!(rt; matches!(ended, Err(CoreFault::Ended)));
+    let both = play_both(alloc, 1, crowded(alloc)?, crowded(alloc)?)?;
+    assert!(rt; matches!(both.second, Err(CoreFault::Ended)));
+    assert_eq!(rt; both.events, 1);
     Ok(())
 }

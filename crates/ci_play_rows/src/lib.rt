@@ -8,6 +8,10 @@ mod changes;
 #[cfg(test)]
 mod copies;
 #[cfg(test)]
+mod returns;
+#[cfg(test)]
 mod standings;
+#[cfg(test)]
+mod starts;
 #[cfg(test)]
 mod steps;

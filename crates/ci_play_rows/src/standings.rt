@@ -111,19 +111,32 @@ pub(crate) fn list(alloc: Global, steps: Vec<Step>) -> Result<Listed, Fail> {
     })
 }
 
+/// How two lists of steps ended, and how many events stand behind them.
+#[derive(Drop)]
+pub(crate) struct Both {
+    pub(crate) first: Result<(), CoreFault>,
+    pub(crate) second: Result<(), CoreFault>,
+    pub(crate) events: usize,
+}
+
 /// Two lists are played on one catalogue, behind each other.
 pub(crate) fn play_both(
     alloc: Global,
     documents: u32,
     steps: Vec<Step>,
     more: Vec<Step>,
-) -> Result<Result<(), CoreFault>, Fail>
+) -> Result<Both, Fail>
     requires some { 1 ≤ documents }
     requires few { documents ≤ 262144 }
 {
     let mut catalog = catalog(alloc, documents)?;
-    let _first = run_core(&mut catalog, steps);
-    Ok(run_core(&mut catalog, more))
+    let first = run_core(&mut catalog, steps);
+    let second = run_core(&mut catalog, more);
+    Ok(Both {
+        first,
+        second,
+        events: catalog.journal().events().len(),
+    })
 }
 
 /// Whether this is the one document.

@@ -22,6 +22,20 @@ pub(crate) fn ask(steps: &mut Vec<Step>, text: &str) -> Result<(), Fail> {
     Ok(())
 }
 
+/// A query of so many spaces is asked.
+pub(crate) fn ask_spaces(steps: &mut Vec<Step>, count: usize) -> Result<(), Fail> {
+    let text = spaces(*steps.allocator(), count)?;
+    ask(steps, text.as_str())
+}
+
+fn spaces(alloc: Global, count: usize) -> Result<String, Fail> {
+    let mut text = String::new(alloc);
+    for _ in 0..count {
+        text.push(' ')?;
+    }
+    Ok(text)
+}
+
 /// The document is noted.
 pub(crate) fn note(steps: &mut Vec<Step>, text: &str, what: What) -> Result<(), Fail> {
     let path = path(*steps.allocator(), text)?;
@@ -56,18 +70,43 @@ pub(crate) fn begin(steps: &mut Vec<Step>, max: usize) -> Result<(), Fail> {
     Ok(())
 }
 
-/// It finishes the first batch, which is of this document under the first notice.
-pub(crate) fn finish(steps: &mut Vec<Step>, text: &str) -> Result<(), Fail> {
-    let alloc = *steps.allocator();
+// The first batch, which is of this document under the first notice.
+fn first_batch(alloc: Global, text: &str) -> Result<Batch, Fail> {
     let mut docs = Docs::new(alloc);
     docs.add((path(alloc, text)?, Seq(1)))?;
+    Ok(Batch { number: 1, docs })
+}
+
+/// It finishes the first batch, which is of this document.
+pub(crate) fn finish(steps: &mut Vec<Step>, text: &str) -> Result<(), Fail> {
+    let alloc = *steps.allocator();
+    let batch = first_batch(alloc, text)?;
     let mut outcomes = Outcomes::new(alloc);
     outcomes.add(Outcome::Done(Transcript::new(alloc)))?;
     steps.push(Step::FinishBatch {
         by: 1,
-        batch: Batch { number: 1, docs },
+        batch,
         outcomes,
     })?;
+    Ok(())
+}
+
+/// It gives the first batch back, which is of this document.
+pub(crate) fn give_back(steps: &mut Vec<Step>, text: &str) -> Result<(), Fail> {
+    let batch = first_batch(*steps.allocator(), text)?;
+    steps.push(Step::ReturnBatch { by: 1, batch })?;
+    Ok(())
+}
+
+/// The daemon was started.
+pub(crate) fn start(steps: &mut Vec<Step>) -> Result<(), Fail> {
+    steps.push(Step::Started { by: 1 })?;
+    Ok(())
+}
+
+/// It couldn't be started.
+pub(crate) fn fail_start(steps: &mut Vec<Step>) -> Result<(), Fail> {
+    steps.push(Step::StartFailed { by: 1 })?;
     Ok(())
 }
 

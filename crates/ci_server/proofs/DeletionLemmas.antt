@@ -27,10 +27,11 @@ use Rattle.ci_core.specs.Erasing.{Erases, RefusesErasing}
 use Rattle.ci_core.specs.Fixed.{KeepsFixed}
 use Rattle.ci_core.specs.Refusals.{IsRefused, Refuses}
 use Rattle.ci_core.specs.Steps.{IsUnrefused, Makes}
+use Rattle.ci_server.specs.Served.{IsAt}
 use Rattle.ci_server.specs.Stops.{AreBelowNext, IsSound}
 use Rattle.ci_server.proofs.DocumentLemmas.{low-noted}
 use Rattle.ci_server.proofs.StepLemmas.{step-filed}
-use Rattle.ci_server.proofs.StepsLemmas.{IsAt, IsAt-step}
+use Rattle.ci_server.proofs.StepsLemmas.{IsAt-step}
 
 passes : {X : Type 0} (p : X → Bool) (xs : List X) (x : X) → Contains (filter p xs) x → p x ≡ true
 passes p [] x here = absurd (none_in_empty x here)
@@ -112,4 +113,4 @@ module _ (old a : Core) (path : List ℕ) (seq : Seq) (sound : IsSound old) (nex
       let e = event 0 (Erased path seq) in
       let makes = subst (λ (s : Seq). Makes a b (event 0 (Erased path s))) (only-at erases.0 erases.1) erases.2 in
       IsAt-step old a b (noted 0 path seq.0 Deleted ∷ []) e at
-      (step-filed a b e at.sound makes unrefused keeps refl (record { path = path; seq = seq; fate = Gone }) path seq refl refl (omega (arith, low-noted old a path seq Deleted next at)))
+      (step-filed a b e at.sound refl makes unrefused keeps refl (record { path = path; seq = seq; fate = Gone }) path seq refl refl (omega (arith, low-noted old a path seq Deleted next at)))

@@ -11,6 +11,7 @@ use Rattle.ci_dialect.specs.Tree.{IsTree}
 use Rattle.ci_journal.specs.declared.event.Event.{Event}
 use Rattle.ci_journal.specs.declared.event.Happened.TheVariants.{Opened, Answered}
 use Rattle.ci_journal.specs.declared.request.Request.TheVariants as request
+use Rattle.ci_journal.specs.Bytes.{journal_bytes}
 use Rattle.ci_journal.specs.Folds.{numbered_paths}
 use Rattle.ci_journal.specs.Queries.{AsksAt, IsAnswer}
 use Rattle.ci_journal.specs.Served.{hits, hits_in, live_map}
@@ -26,12 +27,12 @@ use Rattle.ci_core.specs.Opening.{NoneWaits, Opens, RefusesOpening}
 use Rattle.ci_core.specs.Refusals.{IsRefused, Refuses}
 use Rattle.ci_core.specs.Steps.{IsUnrefused, Makes, Rests}
 use Rattle.ci_core.proofs.QueueLemmas.{request_at-push}
-use Rattle.ci_server.specs.Served.{IsJustAsked}
+use Rattle.ci_server.specs.Served.{IsAt, IsJustAsked}
 use Rattle.ci_server.specs.Stops.{AreBelowNext}
 use Rattle.ci_server.specs.Turns.{AreSteps}
 use Rattle.ci_server.proofs.NotingLemmas.{whole-answered}
 use Rattle.ci_server.proofs.StepLemmas.{step-quiet}
-use Rattle.ci_server.proofs.StepsLemmas.{IsAt, IsAt-none, IsAt-step, MaySay-at}
+use Rattle.ci_server.proofs.StepsLemmas.{IsAt-none, IsAt-step, MaySay-at}
 
 -- only the want of memory isn't met in the text
 pub is_met : (fault : QueryFault) (met : QueryKind × ℕ) → met_in fault ≡ Some met → fault ≢ OutOfMemory
@@ -52,6 +53,7 @@ module _ (old : Core) (id : ℕ) (text : List ℕ) (just : IsJustAsked old id (r
         remains = record { limit = rests.stays.limit; told = rests.told; fixed = keeps };
         sound = record {
           unrefused = unrefused.after;
+          within = omega (arith, sound.within, ap journal_bytes rests.stays.events, rests.stays.limit);
           numbered = rests.numbered ∙ sound.numbered ∙ ap (numbered_paths old.terms) (sym rests.stays.events) ∙ ap (λ (t : Terms). numbered_paths t a.sheet.events) (sym rests.told.terms);
           room = omega (arith, sound.room, ap length rests.numbered, rests.told.most);
           below = subst (λ (t : Terms). AreBelowNext t a.sheet.events) (sym rests.told.terms) (subst (AreBelowNext old.terms) (sym rests.stays.events) sound.below);
@@ -73,7 +75,7 @@ module _ (old : Core) (id : ℕ) (text : List ℕ) (just : IsJustAsked old id (r
     opened-at unrefused keeps =
         let e = event 0 (Opened id) in
         let makes = subst (λ (n : ℕ). Makes old a (event 0 (Opened n))) question-id opens.makes in
-        IsAt-step old old a [] e (IsAt-none old just.sound) (step-quiet old a e just.sound makes unrefused keeps refl refl)
+        IsAt-step old old a [] e (IsAt-none old just.sound) (step-quiet old a e just.sound refl makes unrefused keeps refl refl)
 
     -- the hits of the question may be its answer
     pub may-answer : (paths : List (List ℕ)) → IsAt old a (event 0 (Opened id) ∷ []) → paths ≡ hits_in question.tree question.plain

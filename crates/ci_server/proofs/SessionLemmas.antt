@@ -1,48 +1,25 @@
 -- What the end of a session says of its journal and its sink.
-use Rattle.std.proofs.Common.{arith, ◌≡◌, ◌≢◌, ◌∙◌, ◌<◌, ◌≤◌, ◌+◌, ℕ, Bool, List, [], ◌∷◌, ◌++◌, length, None, ⊎_elim, false, true, refl, ap, sym, subst}
+use Rattle.std.proofs.Common.{arith, ◌≡◌, ◌≢◌, ◌∙◌, ◌<◌, ◌≤◌, ◌+◌, ℕ, Bool, List, ◌++◌, length, ⊎_elim, false, true, refl, ap, sym, subst}
 use Rattle.ci_io.specs.Reading.{Reading, ahead}
 use Rattle.ci_journal.specs.declared.event.Event.{Event}
-use Rattle.ci_journal.specs.declared.event.Happened.{Happened}
-use Rattle.ci_journal.specs.declared.event.Happened.TheVariants.{Asked, Noted, Put, Erased, Started, StartFailed, DaemonLost, Begun, BatchDone, BatchDied, Returned, Shadowed, MasterBegun, MasterStep, MasterEnded, Opened, Answered, Said}
-use Rattle.ci_journal.specs.Bytes.{journal_bytes}
+use Rattle.ci_journal.specs.Bytes.{capped, journal_bytes}
 use Rattle.ci_journal.specs.Folds.{is_numbered, numbered_paths}
-use Rattle.ci_journal.specs.Printed.{PrintsCut, lines_of}
-use Rattle.ci_journal.specs.Step.{May}
-use Rattle.ci_journal.specs.Tells.{tells}
+use Rattle.ci_journal.specs.Printed.{PrintsCut}
+use Rattle.ci_journal.specs.Step.{May, step_of}
 use Rattle.ci_journal.specs.Terms.{Terms}
 use Rattle.ci_journal.proofs.FoldsLemmas.{numbered_paths-push}
 use Rattle.ci_core.specs.declared.core_fault.CoreFault.{CoreFault}
 use Rattle.ci_core.specs.declared.core_fault.CoreFault.TheVariants as refusal
 use Rattle.ci_core.specs.Core.{Core}
 use Rattle.ci_core.specs.Fixed.{Fixed, HasFixed, PrintsAfter, PrintsAll}
+use Rattle.ci_core.specs.Steps.{step_in}
 use Rattle.ci_server.specs.declared.status.Status.{Status}
 use Rattle.ci_server.specs.declared.status.Status.TheVariants.{Done, Usage, ReadFault, WriteFault, JournalFull, TooManyDocuments, OutOfMemory, EndlessLine}
 use Rattle.ci_server.specs.Progress.{Ends, FitsSession, Progress}
-use Rattle.ci_server.specs.Session.{AsksFirst, ComesNext, EndsBetween, InTurns, IsCrowdedAt, IsFullAt, IsWhole, Told}
+use Rattle.ci_server.specs.Session.{AsksFirst, ComesNext, EndsBetween, InTurns, IsCrowdedAt, IsFullAt, IsWhole, Told, step_told}
 use Rattle.ci_server.specs.Stops.{IsNext, StopsIn}
 use Rattle.ci_server.proofs.ProgressLemmas.{FitsSession-whole}
-use Rattle.ci_server.proofs.StopLemmas.{Fits-stops}
-
--- what prints lines is no notice
-no_notice : (what : Happened) → 0 < length (lines_of what) → (tells what).notice ≡ None
-no_notice (Noted notice) some = absurd (omega arith)
-no_notice (Asked id request) some = refl
-no_notice (Put path seq transcript) some = refl
-no_notice (Erased path seq) some = refl
-no_notice Started some = refl
-no_notice StartFailed some = refl
-no_notice DaemonLost some = refl
-no_notice (Begun batch) some = refl
-no_notice (BatchDone number outcomes) some = refl
-no_notice (BatchDied number charged) some = refl
-no_notice (Returned number) some = refl
-no_notice Shadowed some = refl
-no_notice MasterBegun some = refl
-no_notice (MasterStep split) some = refl
-no_notice MasterEnded some = refl
-no_notice (Opened id) some = refl
-no_notice (Answered id at paths) some = refl
-no_notice (Said id reply) some = refl
+use Rattle.ci_server.proofs.StopLemmas.{Fits-stops, prints-reply}
 
 -- no more paths are noted than were when the step was refused
 same_numbered : (terms : Terms) (Fits : List Event → Type 0) (start core : Core) (fault : CoreFault) (stops : StopsIn Fits start core fault)
@@ -51,7 +28,7 @@ same_numbered terms Fits start core refusal.TooManyDocuments stops = ap (numbere
 same_numbered terms Fits start core (refusal.JournalFull used more) stops = ap (numbered_paths terms) stops.halts.2.stays.events
 same_numbered terms Fits start core refusal.OutOfMemory stops = ap (numbered_paths terms) stops.halts
 same_numbered terms Fits start core refusal.WriteFault stops =
-    ap (numbered_paths terms) stops.halts.3 ∙ numbered_paths-push terms stops.mid.sheet.events stops.halts.0 ∙ rw (no_notice stops.halts.0.what stops.halts.2) refl
+    ap (numbered_paths terms) stops.halts.3 ∙ numbered_paths-push terms stops.mid.sheet.events stops.halts.0 ∙ rw ((prints-reply stops.halts.0.what stops.halts.2).no_notice) refl
 same_numbered terms Fits start core refusal.Ended stops = absurd stops.halts
 
 -- what a session with this fixed part was told at its start
@@ -147,17 +124,35 @@ module _ (first : Reading) (start : Core) (now : Reading) (core : Core) (fixed :
   bounded TooManyDocuments ends = bounded-cut refusal.TooManyDocuments ends
   bounded OutOfMemory ends = bounded-cut refusal.OutOfMemory ends
 
+  pub within : (status : Status) → Ends first start now core status → journal_bytes core.sheet.events ≤ core.sheet.limit
+  within Done ends = ⊎_elim (λ progress. progress.between.sound.within) (λ over. over.progress.between.sound.within) ends
+  within Usage ends = absurd ends
+  within ReadFault ends = ends.1.progress.between.sound.within
+  within EndlessLine ends = ends.1.progress.between.sound.within
+  within WriteFault ends = ends.within
+  within (JournalFull used more) ends = ends.within
+  within TooManyDocuments ends = ends.within
+  within OutOfMemory ends = ends.within
+
   -- after a fault of the sink bytes at the end lack
   pub cut_off : Ends first start now core WriteFault → PrintsCut fixed.written core.sheet.written core.sheet.events
   cut_off ends = (ends.prints fixed has).cut
 
-  -- the event that was refused comes next behind the journal
+  -- the events of the step that was refused, as they are told
+  same_step : (fault : CoreFault) (stops : StopsIn (FitsSession start.terms (ahead first)) start core fault) (event : Event) → core.sheet.events ≡ stops.mid.sheet.events
+      → step_in stops.mid event ≡ step_told (told_at_start fixed first) core.sheet.events event
+  same_step fault stops event same =
+      ap (λ (t : Terms). step_of t stops.mid.sheet.events event.by event.what) (terms-cut fault stops) ∙ ap (λ es. step_of fixed.terms es event.by event.what) (sym same)
+
+  -- the step that was refused comes next behind the journal
   comes_next : (fault : CoreFault) (stops : StopsIn (FitsSession start.terms (ahead first)) start core fault) (event : Event) → IsNext (FitsSession start.terms (ahead first)) stops.mid event → core.sheet.events ≡ stops.mid.sheet.events
       → ComesNext (told_at_start fixed first) core.sheet.events event
   comes_next fault stops event next same = record {
     may = subst (λ es. May fixed.terms es event.by event.what) (sym same) (subst (λ (t : Terms). May t stops.mid.sheet.events event.by event.what) (terms-cut fault stops) next.may);
-    in_turn = subst (λ es. InTurns fixed.terms (es ++ event ∷ [])) (sym same) (subst (λ (t : Terms). InTurns t (stops.mid.sheet.events ++ event ∷ [])) has.terms next.fits.turns);
-    lines = subst (λ es. AsksFirst (ahead first) (es ++ event ∷ [])) (sym same) next.fits.lines;
+    in_turn = subst (λ es. InTurns fixed.terms (es ++ step_told (told_at_start fixed first) core.sheet.events event)) (sym same) (subst (λ es. InTurns fixed.terms (stops.mid.sheet.events ++ es)) (same_step fault stops event same)
+        (subst (λ (t : Terms). InTurns t (stops.mid.sheet.events ++ step_in stops.mid event)) has.terms next.fits.turns));
+    lines = subst (λ es. AsksFirst (ahead first) (es ++ step_told (told_at_start fixed first) core.sheet.events event)) (sym same)
+        (subst (λ es. AsksFirst (ahead first) (stops.mid.sheet.events ++ es)) (same_step fault stops event same) next.fits.lines);
   }
 
   -- the paths that are numbered are those that the journal notes
@@ -176,7 +171,7 @@ module _ (first : Reading) (start : Core) (now : Reading) (core : Core) (fixed :
         event = event;
         next = comes_next fault ends event ends.halts.1 same;
         counted = full.counted ∙ ap journal_bytes (sym same);
-        wanted = full.wanted;
+        wanted = full.wanted ∙ ap (λ es. capped (journal_bytes es)) (same_step fault ends event same);
         over = subst (λ n. n < used + more) (ends.remains.limit ∙ has.limit) full.over;
         room = λ many. ends.halts.3 (record {
           notice = many.notice;

@@ -7,18 +7,19 @@ use Rattle.ci_change.specs.declared.notice.What.{What}
 use Rattle.ci_change.specs.Pending.{latest_number, served_number}
 use Rattle.ci_change.proofs.PendingLemmas.{latest_number-push, served_number-push}
 use Rattle.ci_journal.specs.declared.event.Event.{Event}
-use Rattle.ci_journal.specs.Bytes.{journal_bytes}
 use Rattle.ci_journal.specs.Filings.{Filings, fates, filings}
 use Rattle.ci_journal.specs.Folds.{is_numbered, new_notices, next_notice, notices, numbered_paths}
 use Rattle.ci_journal.specs.Served.{number_of, numbers_of, served_numbers}
 use Rattle.ci_journal.specs.Tells.{Filing, tells}
 use Rattle.ci_journal.specs.Tells.Filed.{One}
 use Rattle.ci_journal.specs.Terms.{Terms}
-use Rattle.ci_journal.proofs.FoldsLemmas.{file_where, filings-push, new_notices-push, notices-push, numbered_paths-push, numbers_of-push}
+use Rattle.ci_journal.proofs.FoldsLemmas.{file_where, filings-push, new_notices-push, notices-push, numbers_of-push}
 use Rattle.ci_core.specs.Changes.{noted}
 use Rattle.ci_core.specs.Core.{Core}
 use Rattle.ci_core.specs.Fixed.{KeepsFixed}
-use Rattle.ci_core.specs.Steps.{IsUnrefused, Makes, with_noted}
+use Rattle.ci_core.specs.Steps.{IsUnrefused, Makes, numbered_behind, step_in}
+use Rattle.ci_core.proofs.CatalogLemmas.{numbered_paths-append}
+use Rattle.ci_core.proofs.HaltsLemmas.{alone, is_failed}
 use Rattle.ci_server.specs.Stops.{AreBelowNext, IsSound, Remains}
 
 pub Remains-refl : (core : Core) → Remains core core
@@ -36,7 +37,6 @@ pub record IsStep (a b : Core) (e : Event) : Type 0 where
   pub events : b.sheet.events ≡ a.sheet.events ++ e ∷ []
   pub remains : Remains a b
   pub sound : IsSound b
-  pub within : journal_bytes b.sheet.events ≤ b.sheet.limit
 
 -- ---- the next notice's number stays above all others
 
@@ -113,27 +113,37 @@ module _ (terms : Terms) (journal : List Event) (path : List ℕ) (seq : Seq) (w
 
 -- ---- a step that added an event
 
-module _ (a b : Core) (e : Event) (sound : IsSound a) (makes : Makes a b e) (unrefused : IsUnrefused a b) (keeps : KeepsFixed a b) where
+-- no step but a failed start has more events than the one that names it
+pub one_event : (core : Core) (e : Event) → IsSound core → is_failed e.what ≡ false → step_in core e ≡ e ∷ []
+one_event core e sound other = alone core.terms core.sheet.events e.by e.what sound.plain other
+
+module _ (a b : Core) (e : Event) (sound : IsSound a) (other : is_failed e.what ≡ false) (makes : Makes a b e) (unrefused : IsUnrefused a b) (keeps : KeepsFixed a b) where
+  added : b.sheet.events ≡ a.sheet.events ++ e ∷ []
+  added = makes.adds.events ∙ ap (λ es. a.sheet.events ++ es) (one_event a e sound other)
+
+  numbered_now : b.numbered ≡ numbered_behind a.numbered (e ∷ [])
+  numbered_now = makes.numbered ∙ ap (numbered_behind a.numbered) (one_event a e sound other)
+
   step-any : length b.numbered ≤ b.most → AreBelowNext a.terms (a.sheet.events ++ e ∷ []) → IsStep a b e
   step-any room below = record {
-    events = makes.adds.events;
+    events = added;
     remains = record { limit = makes.adds.limit; told = makes.told; fixed = keeps };
     sound = record {
       unrefused = unrefused.after;
-      numbered = makes.numbered ∙ ap (λ ns. with_noted ns e.what) sound.numbered ∙ sym (numbered_paths-push a.terms a.sheet.events e)
-          ∙ ap (numbered_paths a.terms) (sym makes.adds.events) ∙ ap (λ (t : Terms). numbered_paths t b.sheet.events) (sym makes.told.terms);
+      within = makes.within;
+      numbered = numbered_now ∙ ap (λ ns. numbered_behind ns (e ∷ [])) sound.numbered ∙ sym (numbered_paths-append a.terms a.sheet.events (e ∷ []))
+          ∙ ap (numbered_paths a.terms) (sym added) ∙ ap (λ (t : Terms). numbered_paths t b.sheet.events) (sym makes.told.terms);
       room = room;
-      below = subst (λ (t : Terms). AreBelowNext t b.sheet.events) (sym makes.told.terms) (subst (AreBelowNext a.terms) (sym makes.adds.events) below);
+      below = subst (λ (t : Terms). AreBelowNext t b.sheet.events) (sym makes.told.terms) (subst (AreBelowNext a.terms) (sym added) below);
       plain = ap (λ (t : Terms). t.in_lists) makes.told.terms ∙ sound.plain;
     };
-    within = makes.adds.within;
   }
 
   -- an event that is no notice numbers nothing
   module _ (no_notice : (tells e.what).notice ≡ None) where
     same_room : length b.numbered ≤ b.most
     same_room =
-        let same : b.numbered ≡ a.numbered = makes.numbered ∙ rw no_notice refl in
+        let same : b.numbered ≡ a.numbered = numbered_now ∙ rw no_notice refl in
         omega (arith, sound.room, ap length same, makes.told.most)
 
     -- and nothing is filed
@@ -162,5 +172,5 @@ module _ (a b : Core) (path : List ℕ) (seq : Seq) (what : What) (sound : IsSou
 
   pub step-noted : IsStep a b (noted 0 path seq.0 what)
   step-noted =
-      step-any a b (noted 0 path seq.0 what) sound makes unrefused keeps (room-noted (is_numbered a.numbered path) refl)
+      step-any a b (noted 0 path seq.0 what) sound refl makes unrefused keeps (room-noted (is_numbered a.numbered path) refl)
       (below-noted a.terms a.sheet.events path seq what next sound.below)

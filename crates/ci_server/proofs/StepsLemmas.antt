@@ -13,17 +13,12 @@ use Rattle.ci_core.specs.declared.core_fault.CoreFault.TheVariants.{OutOfMemory}
 use Rattle.ci_core.specs.Core.{Core}
 use Rattle.ci_core.specs.Fixed.{KeepsFixed}
 use Rattle.ci_core.specs.Refusals.{Refuses}
-use Rattle.ci_server.specs.Served.{FitsSteps, ServesSteps, StopsSteps}
-use Rattle.ci_server.specs.Stops.{IsSound, Remains}
+use Rattle.ci_core.proofs.HaltsLemmas.{is_failed}
+use Rattle.ci_server.specs.Served.{FitsSteps, IsAt, ServesSteps, StopsSteps}
+use Rattle.ci_server.specs.Stops.{IsSound}
 use Rattle.ci_server.specs.Turns.{AreSteps, AreFirst}
 use Rattle.ci_server.proofs.StepLemmas.{IsStep, Remains-refl, Remains-trans}
 use Rattle.ci_server.proofs.StopLemmas.{NotesInRoom, StopsIn-map, StopsIn-refused, StopsIn-starved}
-
--- these steps were made, one after the other
-pub record IsAt (old now : Core) (steps : List Event) : Type 0 where
-  pub events : now.sheet.events ≡ old.sheet.events ++ steps
-  pub remains : Remains old now
-  pub sound : IsSound now
 
 pub IsAt-none : (old : Core) → IsSound old → IsAt old old []
 IsAt-none old sound = record { events = sym (append-nil old.sheet.events); remains = Remains-refl old; sound = sound }
@@ -63,12 +58,12 @@ MaySay-at old now steps id at none_asked none_replied may =
 
 module _ (old : Core) (id : ℕ) (request : Request) where
   -- the next of the steps was refused
-  pub steps-stop : (now new : Core) (steps : List Event) (e : Event) (fault : CoreFault) → IsAt old now steps → AreFirst old.terms old.sheet.events id request steps
+  pub steps-stop : (now new : Core) (steps : List Event) (e : Event) (fault : CoreFault) → is_failed e.what ≡ false → IsAt old now steps → AreFirst old.terms old.sheet.events id request steps
       → AreFirst old.terms old.sheet.events id request (steps ++ e ∷ []) → Refuses now new e fault → KeepsFixed now new → NotesInRoom now e fault → StopsSteps old new id request fault
-  steps-stop now new steps e fault at first with_next refuses keeps room =
+  steps-stop now new steps e fault other at first with_next refuses keeps room =
       let F = FitsSteps old.terms old.sheet.events id request in
       StopsIn-map F F (λ _ fits. fits) old now new fault at.remains
-      (StopsIn-refused F now new e fault at.sound (steps, first, at.events)
+      (StopsIn-refused F now new e fault at.sound other (steps, first, at.events)
       (steps ++ e ∷ [], with_next, ap (λ es. es ++ e ∷ []) at.events ∙ append_assoc old.sheet.events steps (e ∷ [])) refuses keeps room)
 
   -- there was no memory for what the next step needs
@@ -81,4 +76,4 @@ module _ (old : Core) (id : ℕ) (request : Request) where
   pub steps-serve : (now new : Core) (steps : List Event) (e : Event) → IsAt old now steps → IsStep now new e → AreSteps old.terms old.sheet.events id request (steps ++ e ∷ []) → ServesSteps old new id request
   steps-serve now new steps e at step made =
       let all = IsAt-step old now new steps e at step in
-      record { steps = steps ++ e ∷ []; made = made; events = all.events; remains = all.remains; sound = all.sound; within = step.within }
+      record { steps = steps ++ e ∷ []; made = made; events = all.events; remains = all.remains; sound = all.sound }

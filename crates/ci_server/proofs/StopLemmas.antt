@@ -1,28 +1,66 @@
 -- A session that stops at a refused step.
-use Rattle.std.proofs.Common.{arith, ◌≡◌, ◌<◌, ◌∙◌, ℕ, List, [], ◌∷◌, ◌++◌, length, ◌⊎◌, Option, Some, None, ⊎_elim, refl, sym, subst}
+use Rattle.std.proofs.Common.{arith, ◌≡◌, ◌<◌, ◌≤◌, ◌∙◌, ℕ, false, List, [], ◌∷◌, ◌++◌, length, ◌⊎◌, Option, Some, None, ⊎_elim, refl, ap, sym, subst}
 use Rattle.ci_io.specs.Putting.{AppendsFront}
 use Rattle.ci_journal.specs.declared.event.Event.{Event}
+use Rattle.ci_journal.specs.declared.event.Happened.{Happened}
+use Rattle.ci_journal.specs.declared.event.Happened.TheVariants.{Asked, Noted, Put, Erased, Started, StartFailed, DaemonLost, Begun, BatchDone, BatchDied, Returned, Shadowed, MasterBegun, MasterStep, MasterEnded, Opened, Answered, Said}
+use Rattle.ci_journal.specs.Bytes.{journal_bytes}
+use Rattle.ci_journal.specs.Printed.{lines_of}
 use Rattle.ci_core.specs.declared.core_fault.CoreFault.{CoreFault}
 use Rattle.ci_core.specs.declared.core_fault.CoreFault.TheVariants.{TooManyDocuments, JournalFull, OutOfMemory, WriteFault, Ended}
+use Rattle.ci_core.specs.Changes.{Stays}
 use Rattle.ci_core.specs.Core.{Core}
 use Rattle.ci_core.specs.Fixed.{KeepsFixed, PrintsAfter}
 use Rattle.ci_journal.specs.Tells.{tells}
 use Rattle.ci_core.specs.Refusals.{IsCrowded, IsOver, Refuses, Stops}
+use Rattle.ci_core.specs.Sheet.{Sheet}
+use Rattle.ci_core.specs.Steps.{step_in}
+use Rattle.ci_core.proofs.HaltsLemmas.{is_failed}
 use Rattle.ci_server.specs.Stops.{Halts, IsNext, IsSound, Remains, StopsIn}
-use Rattle.ci_server.proofs.StepLemmas.{Remains-refl, Remains-trans}
+use Rattle.ci_server.proofs.StepLemmas.{Remains-refl, Remains-trans, one_event}
+
+-- what prints lines is neither a notice nor a failed start
+pub record IsReply (what : Happened) : Type 0 where
+  pub no_notice : (tells what).notice ≡ None
+  pub no_failure : is_failed what ≡ false
+
+pub prints-reply : (what : Happened) → 0 < length (lines_of what) → IsReply what
+prints-reply (Noted notice) some = absurd (omega arith)
+prints-reply (Asked id request) some = record { no_notice = refl; no_failure = refl }
+prints-reply (Put path seq transcript) some = record { no_notice = refl; no_failure = refl }
+prints-reply (Erased path seq) some = record { no_notice = refl; no_failure = refl }
+prints-reply Started some = record { no_notice = refl; no_failure = refl }
+prints-reply StartFailed some = absurd (omega arith)
+prints-reply DaemonLost some = record { no_notice = refl; no_failure = refl }
+prints-reply (Begun batch) some = record { no_notice = refl; no_failure = refl }
+prints-reply (BatchDone number outcomes) some = record { no_notice = refl; no_failure = refl }
+prints-reply (BatchDied number charged) some = record { no_notice = refl; no_failure = refl }
+prints-reply (Returned number) some = record { no_notice = refl; no_failure = refl }
+prints-reply Shadowed some = record { no_notice = refl; no_failure = refl }
+prints-reply MasterBegun some = record { no_notice = refl; no_failure = refl }
+prints-reply (MasterStep split) some = record { no_notice = refl; no_failure = refl }
+prints-reply MasterEnded some = record { no_notice = refl; no_failure = refl }
+prints-reply (Opened id) some = record { no_notice = refl; no_failure = refl }
+prints-reply (Answered id at paths) some = record { no_notice = refl; no_failure = refl }
+prints-reply (Said id reply) some = record { no_notice = refl; no_failure = refl }
+
+-- a reply was being printed, and its event stands alone
+pub cut-off : (Fits : List Event → Type 0) (old new : Core) (stops : StopsIn Fits old new WriteFault) → step_in stops.mid stops.halts.0 ≡ stops.halts.0 ∷ []
+cut-off Fits old new stops = one_event stops.mid stops.halts.0 stops.sound (prints-reply stops.halts.0.what stops.halts.2).no_failure
 
 -- the journal that is left fits
 pub Fits-stops : (Fits : List Event → Type 0) (old new : Core) (fault : CoreFault) → StopsIn Fits old new fault → Fits new.sheet.events
 Fits-stops Fits old new TooManyDocuments stops = subst Fits (sym stops.halts.3) stops.fits
 Fits-stops Fits old new (JournalFull used more) stops = subst Fits (sym stops.halts.2.stays.events) stops.fits
 Fits-stops Fits old new OutOfMemory stops = subst Fits (sym stops.halts) stops.fits
-Fits-stops Fits old new WriteFault stops = subst Fits (sym stops.halts.3) stops.halts.1.fits
+Fits-stops Fits old new WriteFault stops =
+    subst Fits (sym stops.halts.3) (subst (λ es. Fits (stops.mid.sheet.events ++ es)) (cut-off Fits old new stops) stops.halts.1.fits)
 Fits-stops Fits old new Ended stops = absurd stops.halts
 
 -- what holds of each journal that fits, and where the session began before
 module _ (Fits Holds : List Event → Type 0) (holds : (journal : List Event) → Fits journal → Holds journal) where
   IsNext-map : (core : Core) (event : Event) → IsNext Fits core event → IsNext Holds core event
-  IsNext-map core event next = record { fits = holds (core.sheet.events ++ event ∷ []) next.fits; may = next.may }
+  IsNext-map core event next = record { fits = holds (core.sheet.events ++ step_in core event) next.fits; may = next.may }
 
   Halts-map : (old new : Core) (fault : CoreFault) → Halts Fits old new fault → Halts Holds old new fault
   Halts-map old new TooManyDocuments halts = (halts.0, IsNext-map old halts.0 halts.1, halts.2, halts.3)
@@ -38,6 +76,7 @@ module _ (Fits Holds : List Event → Type 0) (holds : (journal : List Event) �
     sound = stops.sound;
     fits = holds stops.mid.sheet.events stops.fits;
     halts = Halts-map stops.mid new fault stops.halts;
+    within = stops.within;
     fixed = λ fixed has. stops.fixed fixed (remains.fixed fixed has);
     prints = λ fixed has. stops.prints fixed (remains.fixed fixed has);
   }
@@ -65,17 +104,29 @@ Halts-from_stops Fits old new event Ended next room stops = absurd stops
 pub never_over : (old new : Core) (fault : CoreFault) → IsSound old → IsOver old new fault → ⊥
 never_over old new fault sound over = let both : None ≡ Some over.refusal = sym sound.unrefused ∙ over.earlier in cc
 
--- the step that adds this event was refused
-pub StopsIn-refused : (Fits : List Event → Type 0) (old new : Core) (event : Event) (fault : CoreFault) → IsSound old → Fits old.sheet.events → Fits (old.sheet.events ++ event ∷ [])
+-- a refusal leaves a journal within the bound
+stays-within : (old new : Sheet) → Stays old new → journal_bytes old.events ≤ old.limit → journal_bytes new.events ≤ new.limit
+stays-within old new stays within = omega (arith, within, ap journal_bytes stays.events, stays.limit)
+
+within-refused : (old new : Core) (event : Event) (fault : CoreFault) → journal_bytes old.sheet.events ≤ old.sheet.limit → Stops old new event fault → journal_bytes new.sheet.events ≤ new.sheet.limit
+within-refused old new event TooManyDocuments within stops = stays-within old.sheet new.sheet stops.1 within
+within-refused old new event (JournalFull used more) within stops = stays-within old.sheet new.sheet stops.0.stays within
+within-refused old new event OutOfMemory within stops = stays-within old.sheet new.sheet stops.stays within
+within-refused old new event WriteFault within stops = stops.0.within
+within-refused old new event Ended within stops = absurd stops
+
+-- the step that tells this event was refused
+pub StopsIn-refused : (Fits : List Event → Type 0) (old new : Core) (event : Event) (fault : CoreFault) → IsSound old → is_failed event.what ≡ false → Fits old.sheet.events → Fits (old.sheet.events ++ event ∷ [])
     → Refuses old new event fault → KeepsFixed old new → NotesInRoom old event fault → StopsIn Fits old new fault
-StopsIn-refused Fits old new event fault sound fits fits_on refuses keeps room =
+StopsIn-refused Fits old new event fault sound other fits fits_on refuses keeps room =
     ⊎_elim (λ over. absurd (never_over old new fault sound over))
     (λ refused. record {
       mid = old;
       remains = Remains-refl old;
       sound = sound;
       fits = fits;
-      halts = Halts-from_stops Fits old new event fault (record { fits = fits_on; may = refused.may }) room refused.halts.1;
+      halts = Halts-from_stops Fits old new event fault (record { fits = subst (λ es. Fits (old.sheet.events ++ es)) (sym (one_event old event sound other)) fits_on; may = refused.may }) room refused.halts.1;
+      within = within-refused old new event fault sound.within refused.halts.1;
       fixed = keeps;
       prints = λ fixed has. subst (PrintsAfter fixed new.sheet) refused.kept (keeps fixed has).prints;
     }) refuses
@@ -88,6 +139,7 @@ StopsIn-starved Fits core sound fits = record {
   sound = sound;
   fits = fits;
   halts = refl;
+  within = sound.within;
   fixed = λ fixed has. has;
   prints = λ fixed has. subst (PrintsAfter fixed core.sheet) sound.unrefused has.prints;
 }

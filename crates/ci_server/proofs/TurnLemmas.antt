@@ -22,12 +22,14 @@ use Rattle.ci_core.specs.Core.{Core}
 use Rattle.ci_core.specs.Fixed.{KeepsFixed}
 use Rattle.ci_core.specs.Opening.{NoneWaits}
 use Rattle.ci_core.specs.Refusals.{Refuses}
+use Rattle.ci_core.specs.Steps.{IsUnrefused, Makes}
 use Rattle.ci_core.proofs.QueueLemmas.{Waits-before, request_at-new}
 use Rattle.ci_server.specs.Served.{FitsSteps, FitsTurn, IsBetween, IsJustAsked, ServesSteps, ServesTurn, StopsSteps, StopsTurn, WaitsAlone}
+use Rattle.ci_server.specs.Stops.{IsSound}
 use Rattle.ci_server.specs.Turns.{AreFirst, AreSteps, Front}
 use Rattle.ci_server.specs.Turns.Front.{Begins}
 use Rattle.ci_server.proofs.FrontLemmas.{front-adds, openings_of}
-use Rattle.ci_server.proofs.StepLemmas.{IsStep, Remains-trans}
+use Rattle.ci_server.proofs.StepLemmas.{IsStep, Remains-trans, step-quiet}
 use Rattle.ci_server.proofs.StepsLemmas.{is_opened-append, is_replied-append, request_at-append, requests_in-append}
 use Rattle.ci_server.proofs.StopLemmas.{StopsIn-map, StopsIn-refused, StopsIn-starved}
 
@@ -124,7 +126,6 @@ between-steps a new id request just serves =
     ap (λ es. length (requests_in es)) serves.events ∙ ap length (requests_in-append a.sheet.events serves.steps ∙ rw (asked-steps a.terms a.sheet.events id request serves.steps serves.made) (append-nil _)) ∙ sym just.last in
     record {
       sound = serves.sound;
-      within = serves.within;
       replied = λ earlier some below. ap (λ es. is_replied es earlier) serves.events ∙ is_replied-append a.sheet.events serves.steps earlier ∙ by earlier some (omega (arith, below, count));
       all_opened = λ other tree waits.
           none-behind a.terms a.sheet.events id request serves.steps serves.made just.found just.waits other tree
@@ -139,6 +140,13 @@ between-steps a new id request just serves =
           let own = subst (λ n. is_replied serves.steps n ≡ true) same (replied-steps a.terms a.sheet.events id request serves.steps serves.made) in
           rw own (or_true (is_replied a.sheet.events earlier))
     ]
+
+-- the asking, under the number that was handed out
+pub asked-step : (old a : Core) (id : ℕ) (request : Request) → IsSound old → id ≡ length (requests_in old.sheet.events) + 1 → Makes old a (event 0 (Asked (length (requests_in old.sheet.events) + 1) request))
+    → IsUnrefused old a → KeepsFixed old a → IsStep old a (event 0 (Asked id request))
+asked-step old a id request sound next makes unrefused keeps =
+    let e = event 0 (Asked (length (requests_in old.sheet.events) + 1) request) in
+    subst (λ n. IsStep old a (event 0 (Asked n request))) (sym next) (step-quiet old a e sound refl makes unrefused keeps refl refl)
 
 module _ (old : Core) (asks : Request) (between : IsBetween old) where
   asking-fits : FitsTurn old.terms old.sheet.events (length (requests_in old.sheet.events) + 1) asks (old.sheet.events ++ event 0 (Asked (length (requests_in old.sheet.events) + 1) asks) ∷ [])
@@ -155,7 +163,7 @@ module _ (old : Core) (asks : Request) (between : IsBetween old) where
   pub turn-halts : (new : Core) (fault : CoreFault) → Refuses old new (event 0 (Asked (length (requests_in old.sheet.events) + 1) asks)) fault → KeepsFixed old new
       → StopsTurn old new (length (requests_in old.sheet.events) + 1) asks fault
   turn-halts new fault refuses keeps =
-      StopsIn-refused (FitsTurn old.terms old.sheet.events (length (requests_in old.sheet.events) + 1) asks) old new (event 0 (Asked (length (requests_in old.sheet.events) + 1) asks)) fault between.sound nothing-fits asking-fits refuses keeps (inl refl)
+      StopsIn-refused (FitsTurn old.terms old.sheet.events (length (requests_in old.sheet.events) + 1) asks) old new (event 0 (Asked (length (requests_in old.sheet.events) + 1) asks)) fault between.sound refl nothing-fits asking-fits refuses keeps (inl refl)
 
   -- the asking, with the number that was handed out and the copy that was asked
   module _ (a : Core) (id : ℕ) (copied : Request) (next : id ≡ length (requests_in old.sheet.events) + 1) (same : copied ≡ asks) (step : IsStep old a (event 0 (Asked id copied))) where

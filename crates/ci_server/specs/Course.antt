@@ -1,16 +1,18 @@
--- What a session was given, what it left, and all that its contract says of them.
+-- What a session was given, what it left, and all that is promised of them: once, for every call that runs a session.
 use Rattle.std.specs.Prelude.{◌≡◌, ◌≢◌, ◌≤◌, ◌⊎◌, ℕ, List, Option, length}
 use Rattle.std.specs.Io.KnownBytes.{Appends, IsAtEnd}
 use Rattle.ci_io.specs.Causes.{Rose}
 use Rattle.ci_journal.specs.declared.event.Event.{Event}
 use Rattle.ci_journal.specs.Bytes.{journal_bytes}
 use Rattle.ci_journal.specs.Folds.{numbered_paths}
+use Rattle.ci_journal.specs.Law.{AllAnswer}
 use Rattle.ci_journal.specs.Printed.{PrintsCut, printed}
 use Rattle.ci_journal.specs.Step.{Run}
 use Rattle.ci_journal.specs.Terms.{Terms}
 use Rattle.ci_server.specs.declared.status.Status.{Status}
 use Rattle.ci_server.specs.declared.status.Status.TheVariants.{Done, Usage, ReadFault, WriteFault, JournalFull, TooManyDocuments, EndlessLine}
-use Rattle.ci_server.specs.Session.{InTurns, IsWhole, EndsBetween, AsksFirst, AsksAll, AsksBefore, AsksTaken, EndsByQuit, ComesTooLong, IsFullAt, IsCrowdedAt, Told}
+use Rattle.ci_server.specs.Right.{AllReply}
+use Rattle.ci_server.specs.Session.{InTurns, IsWhole, EndsBetween, AsksFirst, AsksAll, AsksBefore, AsksTaken, EndsByQuit, ComesTooLong, IsFullAt, IsCrowdedAt, EndsWell, Told}
 
 -- the settings, the source and the sink before and after, the status and the journal
 pub record Course : Type 0 where
@@ -32,11 +34,18 @@ pub record Course : Type 0 where
 abbrev pub told_of : Course → Told
 told_of c = record { terms = c.terms; limit = c.limit; most = c.most; bytes = c.bytes }
 
--- each field is the clause of its name
-pub record IsTold (c : Course) : Type 0 where
+-- its journal is a run, in which each answer lists the hits at its own point and each reply is right to its request
+pub record IsServed (c : Course) : Type 0 where
   pub run : Run c.terms c.journal
+  pub answers : AllAnswer c.terms c.journal
+  pub replies : AllReply c.terms c.journal
+  -- between a request's asking and its reply stand just its steps, and between turns nothing
   pub turns : InTurns c.terms c.journal
   pub whole : EndsBetween c.status → IsWhole c.terms c.journal
+
+-- what was asked is what the lines ask for, up to and including the first `quit`; where the session ended before the
+-- source, that is of the lines whose feeds were taken, and what was taken besides asked for nothing
+pub record IsAsked (c : Course) : Type 0 where
   pub lines : AsksFirst c.bytes c.journal
   pub all_lines : c.status ≡ Done → AsksAll c.bytes c.journal
   pub done : c.status ≡ Done → IsAtEnd c.left ⊎ EndsByQuit c.journal
@@ -44,13 +53,38 @@ pub record IsTold (c : Course) : Type 0 where
   pub left_at_quit : c.status ≡ Done → IsAtEnd c.left ⊎ AsksBefore c.bytes c.left c.journal
   pub taken_at_fault : c.status ≡ ReadFault → AsksTaken c.bytes c.left c.journal
   pub taken_at_long : c.status ≡ EndlessLine → AsksTaken c.bytes c.left c.journal
+
+-- what was written is the printed journal
+pub record IsWritten (c : Course) : Type 0 where
   pub all_printed : c.status ≢ WriteFault → Appends c.written c.written_after (printed c.journal)
   pub cut_off : c.status ≡ WriteFault → PrintsCut c.written c.written_after c.journal
+
+-- each status has its cause
+pub record HasCause (c : Course) : Type 0 where
   pub usage : c.status ≢ Usage
   pub read_fault : c.status ≡ ReadFault → Rose c.read_faults c.read_faults_after
   pub write_fault : c.status ≡ WriteFault → Rose c.write_faults c.write_faults_after
   pub journal_full : (used more : ℕ) → c.status ≡ JournalFull used more → IsFullAt (told_of c) c.journal used more
   pub crowded : c.status ≡ TooManyDocuments → IsCrowdedAt (told_of c) c.journal
+  pub endless : c.status ≡ EndlessLine → ComesTooLong c.bytes c.left c.journal
+
+-- where no count rose and no bound was met, the session ends well
+abbrev pub IsComplete : Course → Type 0
+IsComplete c =
+    (Rose c.read_faults c.read_faults_after → ⊥) → (Rose c.write_faults c.write_faults_after → ⊥)
+    → ((used more : ℕ) → IsFullAt (told_of c) c.journal used more → ⊥) → (IsCrowdedAt (told_of c) c.journal → ⊥)
+    → EndsWell c.status
+
+-- the settings bound the journal at every end
+pub record IsBounded (c : Course) : Type 0 where
   pub within : journal_bytes c.journal ≤ c.limit
   pub bounded : length (numbered_paths c.terms c.journal) ≤ c.most
-  pub endless : c.status ≡ EndlessLine → ComesTooLong c.bytes c.left c.journal
+
+-- all that a session promises
+pub record IsTold (c : Course) : Type 0 where
+  pub served : IsServed c
+  pub asked : IsAsked c
+  pub prints : IsWritten c
+  pub cause : HasCause c
+  pub complete : IsComplete c
+  pub bounds : IsBounded c

@@ -1,14 +1,19 @@
 -- What serving a request does to a catalogue.
-use Rattle.std.specs.Prelude.{◌≡◌, ◌≤◌, ◌+◌, ℕ, false, List, ◌++◌, Some, length}
+use Rattle.std.specs.Prelude.{◌≡◌, ◌+◌, ℕ, false, List, [], ◌∷◌, ◌++◌, Some, length}
+use Rattle.ci_base.specs.declared.numbers.Seq.{Seq}
+use Rattle.ci_change.specs.declared.notice.What.{What}
 use Rattle.ci_dialect.specs.declared.restriction.Restriction.{Restriction}
 use Rattle.ci_journal.specs.declared.event.Event.{Event}
+use Rattle.ci_journal.specs.declared.event.Happened.TheVariants.{Said}
+use Rattle.ci_journal.specs.declared.reply.Reply.{Reply}
 use Rattle.ci_journal.specs.declared.request.Request.{Request}
-use Rattle.ci_journal.specs.Bytes.{journal_bytes}
-use Rattle.ci_journal.specs.Folds.{requests_in, request_at, is_opened}
+use Rattle.ci_journal.specs.Folds.{requests_in, next_notice, request_at, is_opened}
 use Rattle.ci_journal.specs.Queries.{Waits}
 use Rattle.ci_journal.specs.Step.{MaySay}
+use Rattle.ci_journal.specs.Tells.{event}
 use Rattle.ci_journal.specs.Terms.{Terms}
 use Rattle.ci_core.specs.declared.core_fault.CoreFault.{CoreFault}
+use Rattle.ci_core.specs.Changes.{noted}
 use Rattle.ci_core.specs.Core.{Core}
 use Rattle.ci_core.specs.Opening.{NoneWaits}
 use Rattle.ci_server.specs.Right.{AreRepliedBefore}
@@ -18,7 +23,6 @@ use Rattle.ci_server.specs.Turns.{AreSteps, AreFirst, IsTurn, IsTurnFront}
 -- between two turns each request has its reply, and no query waits
 pub record IsBetween (core : Core) : Type 0 where
   pub sound : IsSound core
-  pub within : journal_bytes core.sheet.events ≤ core.sheet.limit
   pub replied : AreRepliedBefore core.sheet.events (length (requests_in core.sheet.events) + 1)
   pub all_opened : NoneWaits core.terms core.sheet.events
 
@@ -36,6 +40,12 @@ pub record IsJustAsked (core : Core) (id : ℕ) (request : Request) : Type 0 whe
   pub unopened : is_opened core.sheet.events id ≡ false
   pub waits : WaitsAlone core.terms core.sheet.events id
 
+-- these events were added, by steps that were not refused
+pub record IsAt (old now : Core) (steps : List Event) : Type 0 where
+  pub events : now.sheet.events ≡ old.sheet.events ++ steps
+  pub remains : Remains old now
+  pub sound : IsSound now
+
 -- the steps of a request were made, its reply the last
 pub record ServesSteps (old new : Core) (id : ℕ) (request : Request) : Type 0 where
   pub steps : List Event
@@ -43,7 +53,6 @@ pub record ServesSteps (old new : Core) (id : ℕ) (request : Request) : Type 0 
   pub events : new.sheet.events ≡ old.sheet.events ++ steps
   pub remains : Remains old new
   pub sound : IsSound new
-  pub within : journal_bytes new.sheet.events ≤ new.sheet.limit
 
 -- the journal goes on with the first steps of a request
 abbrev pub FitsSteps : Terms → List Event → ℕ → Request → List Event → Type 0
@@ -53,6 +62,33 @@ FitsSteps terms before id request journal =
 -- the first steps of a request were made, and the next one was refused
 abbrev pub StopsSteps : Core → Core → ℕ → Request → CoreFault → Type 0
 StopsSteps old new id request fault = StopsIn (FitsSteps old.terms old.sheet.events id request) old new fault
+
+-- the path was noted, under the next number
+pub record IsNotedHere (old new : Core) (path : List ℕ) (seq : Seq) (what : What) : Type 0 where
+  pub next : seq.0 ≡ next_notice old.terms old.sheet.events
+  pub at : IsAt old new (noted 0 path seq.0 what ∷ [])
+
+-- noting the path was refused: this stops each request that has it as its first step
+abbrev pub StopsNoting : Core → Core → List ℕ → What → CoreFault → Type 0
+StopsNoting old new path what fault =
+    (id : ℕ) (request : Request)
+    → AreFirst old.terms old.sheet.events id request (noted 0 path (next_notice old.terms old.sheet.events) what ∷ [])
+    → StopsSteps old new id request fault
+
+-- the reply was made: whatever steps stand before it, where it ends them the request is served
+abbrev pub Replies : Core → Core → ℕ → Reply → Type 0
+Replies now new id reply =
+    (old : Core) (request : Request) (steps : List Event) → IsAt old now steps
+    → AreSteps old.terms old.sheet.events id request (steps ++ event 0 (Said id reply) ∷ [])
+    → ServesSteps old new id request
+
+-- the reply was refused: whatever steps stand before it, where it ends them the request stops in its steps
+abbrev pub StopsReplying : Core → Core → ℕ → Reply → CoreFault → Type 0
+StopsReplying now new id reply fault =
+    (old : Core) (request : Request) (steps : List Event) → IsAt old now steps
+    → AreFirst old.terms old.sheet.events id request steps
+    → AreSteps old.terms old.sheet.events id request (steps ++ event 0 (Said id reply) ∷ [])
+    → StopsSteps old new id request fault
 
 -- the request was asked, and its steps were made
 pub record ServesTurn (old new : Core) (id : ℕ) (request : Request) : Type 0 where

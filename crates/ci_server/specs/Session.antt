@@ -1,5 +1,5 @@
 -- What a session that has ended says of its journal, its source and its sink.
-use Rattle.std.specs.Prelude.{◌≡◌, ◌<◌, ◌≤◌, ◌+◌, ⊤, ◌⊎◌, ℕ, false, List, [], ◌∷◌, ◌++◌, Option, Some, None, length, map, flat_map}
+use Rattle.std.specs.Prelude.{◌≡◌, ◌<◌, ◌≤◌, ◌+◌, ⊤, ◌⊎◌, ℕ, false, List, [], ◌++◌, Option, Some, None, length, map, flat_map}
 use Rattle.std.specs.List.{AllByRecursion}
 use Rattle.ci_io.specs.Lines.{HasNoFeed}
 use Rattle.ci_io.specs.Reading.{BeginsTooLong}
@@ -7,9 +7,9 @@ use Rattle.ci_change.specs.declared.notice.Notice.{Notice}
 use Rattle.ci_journal.specs.declared.event.Event.{Event}
 use Rattle.ci_journal.specs.declared.request.Request.{Request}
 use Rattle.ci_journal.specs.declared.request.Request.TheVariants as request
-use Rattle.ci_journal.specs.Bytes.{capped, event_bytes, journal_bytes}
+use Rattle.ci_journal.specs.Bytes.{capped, journal_bytes}
 use Rattle.ci_journal.specs.Folds.{is_numbered, numbered_paths, requests_in}
-use Rattle.ci_journal.specs.Step.{May}
+use Rattle.ci_journal.specs.Step.{May, step_of}
 use Rattle.ci_journal.specs.Tells.{last_of, tells}
 use Rattle.ci_journal.specs.Terms.{Terms}
 use Rattle.ci_core.specs.declared.settings.Settings.{Settings}
@@ -99,22 +99,26 @@ pub record IsOneTooMany (told : Told) (journal : List Event) (event : Event) : T
   pub new_path : is_numbered (numbered_paths told.terms journal) notice.path ≡ false
   pub many : told.most ≤ length (numbered_paths told.terms journal)
 
--- the event may come next: it goes on with the turn, and what it asks is asked by the lines
+-- the events of the step that tells this one, behind the journal
+abbrev pub step_told : Told → List Event → Event → List Event
+step_told told journal event = step_of told.terms journal event.by event.what
+
+-- the step may come next: it goes on with the turn, and what it asks is asked by the lines
 pub record ComesNext (told : Told) (journal : List Event) (event : Event) : Type 0 where
   pub may : May told.terms journal event.by event.what
-  pub in_turn : InTurns told.terms (journal ++ event ∷ [])
-  pub lines : AsksFirst told.bytes (journal ++ event ∷ [])
+  pub in_turn : InTurns told.terms (journal ++ step_told told journal event)
+  pub lines : AsksFirst told.bytes (journal ++ step_told told journal event)
 
--- the next event is above the bound, and notes no path too many
+-- the next step is above the bound, and notes no path too many
 pub record IsFullAt (told : Told) (journal : List Event) (used more : ℕ) : Type 0 where
   pub event : Event
   pub next : ComesNext told journal event
   pub counted : used ≡ journal_bytes journal
-  pub wanted : more ≡ capped (event_bytes event.what)
+  pub wanted : more ≡ capped (journal_bytes (step_told told journal event))
   pub over : told.limit < used + more
   pub room : IsOneTooMany told journal event → ⊥
 
--- the next event notes a path too many
+-- the next step notes a path too many
 pub record IsCrowdedAt (told : Told) (journal : List Event) : Type 0 where
   pub event : Event
   pub next : ComesNext told journal event

@@ -2,7 +2,7 @@
 use Rattle.std.specs.Prelude.{◌≡◌, ◌<◌, ◌≤◌, ℕ, false, List, [], ◌∷◌, ◌++◌, None, length}
 use Rattle.ci_change.specs.Pending.{latest_number, served_number}
 use Rattle.ci_journal.specs.declared.event.Event.{Event}
-use Rattle.ci_journal.specs.Bytes.{event_bytes}
+use Rattle.ci_journal.specs.Bytes.{journal_bytes}
 use Rattle.ci_journal.specs.Folds.{next_notice, notices, numbered_paths}
 use Rattle.ci_journal.specs.Printed.{lines_of}
 use Rattle.ci_journal.specs.Served.{served_numbers}
@@ -14,17 +14,18 @@ use Rattle.ci_core.specs.Changes.{IsFull}
 use Rattle.ci_core.specs.Core.{Core}
 use Rattle.ci_core.specs.Fixed.{Fixed, HasFixed, KeepsFixed, PrintsAt}
 use Rattle.ci_core.specs.Refusals.{IsCrowded}
-use Rattle.ci_core.specs.Steps.{Told}
+use Rattle.ci_core.specs.Steps.{Told, step_in}
 
 -- the next notice has a number above those of all notices, and above those under which paths were served
 pub record AreBelowNext (terms : Terms) (events : List Event) : Type 0 where
   pub latest : (path : List ℕ) → latest_number (notices terms events) path < next_notice terms events
   pub served : (path : List ℕ) → served_number (served_numbers terms events) path < next_notice terms events
 
--- no step was refused so far: the numbered paths are those that were noted, and no more than may be; and entries aren't
--- kept in word lists, so that no shadow comes before one
+-- no step was refused so far: the journal is within its bound, the numbered paths are those that were noted, and no more
+-- than may be; and entries aren't kept in word lists, so that no shadow comes before one
 pub record IsSound (core : Core) : Type 0 where
   pub unrefused : core.refusal ≡ None
+  pub within : journal_bytes core.sheet.events ≤ core.sheet.limit
   pub numbered : core.numbered ≡ numbered_paths core.terms core.sheet.events
   pub room : length core.numbered ≤ core.most
   pub below : AreBelowNext core.terms core.sheet.events
@@ -36,30 +37,31 @@ pub record Remains (old new : Core) : Type 0 where
   pub told : Told old new
   pub fixed : KeepsFixed old new
 
--- the event may come next, and the journal fits with it
+-- the step that tells this event may come next, and the journal fits with its events
 pub record IsNext (Fits : List Event → Type 0) (core : Core) (event : Event) : Type 0 where
-  pub fits : Fits (core.sheet.events ++ event ∷ [])
+  pub fits : Fits (core.sheet.events ++ step_in core event)
   pub may : May core.terms core.sheet.events event.by event.what
 
--- the next event was refused, for this cause; a path too many is told before a full journal, and want of memory may
--- come of what the event needs first
+-- the next step was refused, for this cause; a path too many is told before a full journal, and want of memory may
+-- come of what the step needs first
 abbrev pub Halts : (List Event → Type 0) → Core → Core → CoreFault → Type 0
 Halts Fits old new TooManyDocuments =
     (event : Event) × IsNext Fits old event × IsCrowded old event × (new.sheet.events ≡ old.sheet.events)
 Halts Fits old new (JournalFull used more) =
-    (event : Event) × IsNext Fits old event × IsFull old.sheet new.sheet (event_bytes event.what) used more
+    (event : Event) × IsNext Fits old event × IsFull old.sheet new.sheet (journal_bytes (step_in old event)) used more
     × (IsCrowded old event → ⊥)
 Halts Fits old new OutOfMemory = new.sheet.events ≡ old.sheet.events
 Halts Fits old new WriteFault =
     (event : Event) × IsNext Fits old event × (0 < length (lines_of event.what)) × (new.sheet.events ≡ old.sheet.events ++ event ∷ [])
 Halts Fits old new Ended = ⊥
 
--- events were added, so that the journal fits, and then a step was refused
+-- events were added, so that the journal fits, and then a step was refused; what is left is within the bound
 pub record StopsIn (Fits : List Event → Type 0) (old new : Core) (fault : CoreFault) : Type 0 where
   pub mid : Core
   pub remains : Remains old mid
   pub sound : IsSound mid
   pub fits : Fits mid.sheet.events
   pub halts : Halts Fits mid new fault
+  pub within : journal_bytes new.sheet.events ≤ new.sheet.limit
   pub fixed : KeepsFixed old new
   pub prints : (fixed : Fixed) → HasFixed fixed old → PrintsAt fixed new.sheet fault

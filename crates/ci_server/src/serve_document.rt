@@ -3,7 +3,7 @@ ghost use Rattle.ci_chunk.specs.Plain.{plain};
 ghost use Rattle.ci_io.specs.declared.line.TheConstants.{LINE_BYTES};
 ghost use Rattle.ci_server.specs.Served.{IsJustAsked, ServesSteps, StopsSteps};
 
-use crate::FOREGROUND;
+use crate::{FOREGROUND, note_here, say_reply};
 use ci_base::{OutOfMemory, PathText, Text};
 use ci_chunk::{Transcript, TranscriptFault};
 use ci_core::{Catalog, CoreFault};
@@ -21,9 +21,8 @@ pub fn serve_changed<K: Sink + Drop>(
     ensures ok { OnOk result (ServesSteps catalog.old catalog.new id (Request.Changed path.now)) }
     ensures err { IfErr result (StopsSteps catalog.old catalog.new id (Request.Changed path.now)) }
 {
-    let _seq = catalog.note(FOREGROUND, path, What::Changed)?;
-    catalog.say(FOREGROUND, id, Reply::Ok)?;
-    Ok(())
+    let _seq = note_here(catalog, path, What::Changed)?;
+    say_reply(catalog, id, Reply::Ok)
 }
 
 /// Notes the deletion of the document, and takes it away.
@@ -36,12 +35,11 @@ pub fn serve_deleted<K: Sink + Drop>(
     ensures ok { OnOk result (ServesSteps catalog.old catalog.new id (Request.Deleted path.now)) }
     ensures err { IfErr result (StopsSteps catalog.old catalog.new id (Request.Deleted path.now)) }
 {
-    let _seq = catalog.note(FOREGROUND, path, What::Deleted)?;
+    let _seq = note_here(catalog, path, What::Deleted)?;
     let erased = catalog.erase(FOREGROUND, path)?;
     // The deletion was just noted, so it is pending.
     prove!(erased);
-    catalog.say(FOREGROUND, id, Reply::Ok)?;
-    Ok(())
+    say_reply(catalog, id, Reply::Ok)
 }
 
 /// Notes the change of the document, and takes the text as its filtering.
@@ -59,11 +57,10 @@ pub fn serve_put<K: Sink + Drop>(
     ensures err { IfErr result
         (StopsSteps catalog.old catalog.new id (Request.Put path.now text.now)) }
 {
-    let seq = catalog.note(FOREGROUND, path, What::Changed)?;
+    let seq = note_here(catalog, path, What::Changed)?;
     let transcript = transcript_of(alloc, path, text)?;
     catalog.put(FOREGROUND, path, seq, transcript)?;
-    catalog.say(FOREGROUND, id, Reply::Ok)?;
-    Ok(())
+    say_reply(catalog, id, Reply::Ok)
 }
 
 // What a filter says of the text. A line's text is never too long for a transcript.

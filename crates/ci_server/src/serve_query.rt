@@ -4,7 +4,7 @@ ghost use Rattle.ci_dialect.specs.Tree.{IsTree};
 ghost use Rattle.ci_server.specs.Right.{HasFault};
 ghost use Rattle.ci_server.specs.Served.{IsJustAsked, ServesSteps, StopsSteps};
 
-use crate::FOREGROUND;
+use crate::{FOREGROUND, say_reply};
 use ci_base::{OutOfMemory, Text};
 use ci_core::{Catalog, CoreFault};
 use ci_dialect::QueryKind;
@@ -28,8 +28,7 @@ pub fn serve_query<K: Sink + Drop>(
 {
     let Some(question) = catalog.open_query(FOREGROUND)? else {
         let (kind, at) = first_fault(alloc, text, catalog.noise())?;
-        catalog.say(FOREGROUND, id, Reply::QueryFault { kind, at })?;
-        return Ok(());
+        return say_reply(catalog, id, Reply::QueryFault { kind, at });
     };
     let hits = question.hits(alloc)?;
     catalog.answer(FOREGROUND, question.id, question.at, hits)?;

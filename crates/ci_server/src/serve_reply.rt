@@ -1,64 +1,36 @@
-ghost use Rattle.std.specs.Prelude.{◌≡◌, [], OnOk, IfErr};
-ghost use Rattle.ci_server.specs.Right.{IsRight};
-ghost use Rattle.ci_server.specs.Served.{IsJustAsked, ServesSteps, StopsSteps};
+ghost use Rattle.std.specs.Prelude.{◌≡◌, IfOk, OnOk, IfErr};
+ghost use Rattle.ci_journal.specs.Step.{MaySay};
+ghost use Rattle.ci_server.specs.Served.{IsNotedHere, Replies, StopsNoting, StopsReplying};
+ghost use Rattle.ci_server.specs.Stops.{IsSound};
 
 use crate::FOREGROUND;
+use ci_base::{PathText, Seq};
 use ci_core::{Catalog, CoreFault};
 use ci_io::Sink;
-use ci_journal::{Reply, Request};
+use ci_journal::{Reply, What};
 
-/// Lists the pending notices.
-pub fn serve_pending<K: Sink + Drop>(catalog: &mut Catalog<K>, id: u64) -> Result<(), CoreFault>
-    requires { IsJustAsked catalog.old id Request.Pending }
-    ensures ok { OnOk result (ServesSteps catalog.old catalog.new id Request.Pending) }
-    ensures err { IfErr result (StopsSteps catalog.old catalog.new id Request.Pending) }
+/// Notes the path, as the first step of a request.
+pub fn note_here<K: Sink + Drop>(
+    catalog: &mut Catalog<K>,
+    path: &PathText,
+    what: What,
+) -> Result<Seq, CoreFault>
+    requires { IsSound catalog.old }
+    ensures ok { IfOk result (λ seq. IsNotedHere catalog.old catalog.new path.now seq what) }
+    ensures err { IfErr result (StopsNoting catalog.old catalog.new path.now what) }
 {
-    let notices = catalog.pending()?;
-    catalog.say(FOREGROUND, id, Reply::Pending(notices))?;
-    Ok(())
+    catalog.note(FOREGROUND, path, what)
 }
 
-/// Every earlier request has its reply: they are served one after the other.
-pub fn serve_wait<K: Sink + Drop>(catalog: &mut Catalog<K>, id: u64) -> Result<(), CoreFault>
-    requires { IsJustAsked catalog.old id Request.Wait }
-    ensures ok { OnOk result (ServesSteps catalog.old catalog.new id Request.Wait) }
-    ensures err { IfErr result (StopsSteps catalog.old catalog.new id Request.Wait) }
-{
-    catalog.say(FOREGROUND, id, Reply::Done)?;
-    Ok(())
-}
-
-/// As `serve_wait`; the caller ends the session.
-pub fn serve_quit<K: Sink + Drop>(catalog: &mut Catalog<K>, id: u64) -> Result<(), CoreFault>
-    requires { IsJustAsked catalog.old id Request.Quit }
-    ensures ok { OnOk result (ServesSteps catalog.old catalog.new id Request.Quit) }
-    ensures err { IfErr result (StopsSteps catalog.old catalog.new id Request.Quit) }
-{
-    catalog.say(FOREGROUND, id, Reply::Bye)?;
-    Ok(())
-}
-
-/// The request asks for nothing that is served.
-pub fn serve_bad<K: Sink + Drop>(
+/// Makes the reply that ends the steps of a request.
+pub fn say_reply<K: Sink + Drop>(
     catalog: &mut Catalog<K>,
     id: u64,
-    request: &Request,
+    reply: Reply,
 ) -> Result<(), CoreFault>
-    requires asked { IsJustAsked catalog.old id request.now }
-    requires right { IsRight catalog.old.terms catalog.old.sheet.events [] id request.now
-        Reply.Bad }
-    ensures ok { OnOk result (ServesSteps catalog.old catalog.new id request.now) }
-    ensures err { IfErr result (StopsSteps catalog.old catalog.new id request.now) }
+    requires { MaySay catalog.old.sheet.events id }
+    ensures ok { OnOk result (Replies catalog.old catalog.new id reply) }
+    ensures err { IfErr result (StopsReplying catalog.old catalog.new id reply) }
 {
-    catalog.say(FOREGROUND, id, Reply::Bad)?;
-    Ok(())
-}
-
-pub fn serve_long<K: Sink + Drop>(catalog: &mut Catalog<K>, id: u64) -> Result<(), CoreFault>
-    requires { IsJustAsked catalog.old id Request.Long }
-    ensures ok { OnOk result (ServesSteps catalog.old catalog.new id Request.Long) }
-    ensures err { IfErr result (StopsSteps catalog.old catalog.new id Request.Long) }
-{
-    catalog.say(FOREGROUND, id, Reply::Long)?;
-    Ok(())
+    catalog.say(FOREGROUND, id, reply)
 }

@@ -1,6 +1,6 @@
 use Rattle.std.proofs.Common.{[], ◌∷◌, ◌∙◌, inr, refl, inl, ap, subst}
 use Rattle.std.proofs.lemmas.Result.{err_from_is_err_and}
-use Rattle.ci_journal.specs.declared.event.Happened.TheVariants.{Opened, Answered, Said}
+use Rattle.ci_journal.specs.declared.event.Happened.TheVariants.{Opened, Answered}
 use Rattle.ci_journal.specs.declared.reply.Reply.TheVariants as reply
 use Rattle.ci_journal.specs.declared.request.Request.TheVariants as request
 use Rattle.ci_dialect.specs.Tree.{IsTree}
@@ -8,19 +8,19 @@ use Rattle.ci_journal.specs.Tells.{event}
 use Rattle.ci_journal.specs.Terms.{Terms}
 use Rattle.ci_server.specs.Right.{HasFault}
 use Rattle.ci_server.specs.Turns.Front.{Begins}
-use Rattle.ci_server.proofs.DocumentLemmas.{replied-serves}
+use Rattle.ci_server.proofs.DocumentLemmas.{IfErr-map, OnOk-map}
 use Rattle.ci_server.proofs.QueryLemmas.{Refuses-opening, no_tree, opened-at, may-answer, rested-at, whole-answer, Refuses-answer, Makes-answer}
 use Rattle.ci_server.proofs.FrontLemmas.{whole-alone}
 use Rattle.ci_server.proofs.NotingLemmas.{first-opened}
 use Rattle.ci_server.proofs.StepLemmas.{step-quiet}
-use Rattle.ci_server.proofs.StepsLemmas.{IsAt-none, steps-serve, steps-starve, steps-stop}
+use Rattle.ci_server.proofs.StepsLemmas.{IsAt-none, MaySay-at, steps-serve, steps-starve, steps-stop}
 use Rattle.ci_server.proofs.serve_query.serve_query.Goals as goal
 
 pub returns-in_err-question-clause-err : goal.returns-in_err-question-clause-err
 returns-in_err-question-clause-err g c =
     let p = err_from_is_err_and c.from_residual.result c.from_residual.ensures.1 in
     let refused = c.in_err-question.ensures in
-    rw (p.1, p.2) (steps-stop c.args.catalog.now c.args.id (request.Query c.args.text.now) _ _ [] (event 0 (Opened c.args.id)) _
+    rw (p.1, p.2) (steps-stop c.args.catalog.now c.args.id (request.Query c.args.text.now) _ _ [] (event 0 (Opened c.args.id)) _ refl
     (IsAt-none _ c.requires.sound) (inl ([], Begins)) (first-opened _ _ c.args.id c.args.text.now) (Refuses-opening _ c.args.id c.args.text.now c.requires _ _ refused.refused) refused.fixed (inl refl))
 
 pub returns-in_err-hits-clause-err : goal.returns-in_err-hits-clause-err
@@ -47,8 +47,8 @@ returns-in_err-answer-clause-err g c =
     let opens = rw c.in-Some.is at o.ok in
     let at = opened-at _ c.args.id c.args.text.now c.requires _ q opens o.unrefused o.fixed in
     let refused = c.in_err-answer.ensures in
-    rw (p.1, p.2) (steps-stop c.args.catalog.now c.args.id (request.Query c.args.text.now) _ _ (event 0 (Opened c.args.id) ∷ []) (event 0 (Answered c.args.id q.at c.in_ok-hits.hits)) _
-    at (first-opened _ _ c.args.id c.args.text.now) (inr (whole-answer _ c.args.id c.args.text.now c.requires _ q opens c.in_ok-hits.hits at c.in_ok-hits.ensures)) (Refuses-answer _ c.args.id c.args.text.now c.requires _ q opens _ c.in_ok-hits.hits _ refused.refused) refused.fixed (inl refl))
+    rw (p.1, p.2) (steps-stop c.args.catalog.now c.args.id (request.Query c.args.text.now) _ _ (event 0 (Opened c.args.id) ∷ []) (event 0 (Answered c.args.id q.at c.in_ok-hits.hits)) _ refl
+    at (first-opened _ _ c.args.id c.args.text.now) (inr (whole-answer _ c.args.id c.args.text.now c.requires _ q opens c.in_ok-hits.hits at c.in_ok-hits.ensures)) (Refuses-answer _ c.args.id c.args.text.now c.requires _ q opens _ c.in_ok-hits.hits _ refused.step.refused) refused.fixed (inl refl))
 
 pub returns-clause-ok : goal.returns-clause-ok
 returns-clause-ok g c =
@@ -58,7 +58,7 @@ returns-clause-ok g c =
     let at = opened-at _ c.args.id c.args.text.now c.requires _ q opens o.unrefused o.fixed in
     let a = c.in_ok-answer.ensures in
     let e = event 0 (Answered c.args.id q.at c.in_ok-hits.hits) in
-    let step = step-quiet _ _ e at.sound (Makes-answer _ c.args.id c.args.text.now c.requires _ q opens _ c.in_ok-hits.hits a.ok) a.unrefused a.fixed refl refl in
+    let step = step-quiet _ _ e at.sound refl (Makes-answer _ c.args.id c.args.text.now c.requires _ q opens _ c.in_ok-hits.hits a.step.ok) a.step.unrefused a.fixed refl refl in
     steps-serve c.args.catalog.now c.args.id (request.Query c.args.text.now) _ _ (event 0 (Opened c.args.id) ∷ []) e at step (whole-answer _ c.args.id c.args.text.now c.requires _ q opens c.in_ok-hits.hits at c.in_ok-hits.ensures)
 
 pub first_fault-requires : goal.first_fault-requires
@@ -69,17 +69,12 @@ first_fault-requires g c =
     let noise = c.noise.ensures.noise ∙ ap (λ (t : Terms). t.noise) at.remains.told.terms in
     λ tree is. no_tree _ c.args.id c.args.text.now c.requires rests.0 tree (subst (λ ws. IsTree ws c.args.text.now tree) noise is)
 
-pub returns-in_err-say-clause-err : goal.returns-in_err-say-clause-err
-returns-in_err-say-clause-err g c =
-    let p = err_from_is_err_and c.from_residual-in_err-say.result c.from_residual-in_err-say.ensures.1 in
+pub say_reply-requires : goal.say_reply-requires
+say_reply-requires g c =
     let o = c.in_ok-question.ensures in
     let rests = rw c.in_default.is at o.ok in
     let at = rested-at _ c.args.id c.args.text.now c.requires _ rests.1 o.unrefused o.fixed in
-    let noise = c.noise.ensures.noise ∙ ap (λ (t : Terms). t.noise) at.remains.told.terms in
-    let has = subst (λ ws. HasFault ws c.args.text.now c.in_ok-kind.kind c.in_ok-kind.at) noise c.in_ok-kind.ensures in
-    let refused = c.in_err-say.ensures in
-    rw (p.1, p.2) (steps-stop c.args.catalog.now c.args.id (request.Query c.args.text.now) _ _ [] (event 0 (Said c.args.id (reply.QueryFault c.in_ok-kind.kind c.in_ok-kind.at))) _
-    at (inl ([], Begins)) (inr (whole-alone _ _ c.args.id (request.Query c.args.text.now) (reply.QueryFault c.in_ok-kind.kind c.in_ok-kind.at) (c.in_ok-kind.kind, c.in_ok-kind.at, refl, has))) refused.refused refused.fixed (inl refl))
+    MaySay-at _ _ _ c.args.id at refl refl c.requires.may_reply
 
 pub returns-in_default-clause-ok : goal.returns-in_default-clause-ok
 returns-in_default-clause-ok g c =
@@ -88,9 +83,18 @@ returns-in_default-clause-ok g c =
     let at = rested-at _ c.args.id c.args.text.now c.requires _ rests.1 o.unrefused o.fixed in
     let noise = c.noise.ensures.noise ∙ ap (λ (t : Terms). t.noise) at.remains.told.terms in
     let has = subst (λ ws. HasFault ws c.args.text.now c.in_ok-kind.kind c.in_ok-kind.at) noise c.in_ok-kind.ensures in
-    let s = c.in_ok-say.ensures in
-    replied-serves _ _ _ c.args.id (request.Query c.args.text.now) (reply.QueryFault c.in_ok-kind.kind c.in_ok-kind.at) [] at s.ok s.unrefused s.fixed
-    (whole-alone _ _ c.args.id (request.Query c.args.text.now) (reply.QueryFault c.in_ok-kind.kind c.in_ok-kind.at) (c.in_ok-kind.kind, c.in_ok-kind.at, refl, has))
+    OnOk-map c.say_reply.result (λ replies. replies c.args.catalog.now (request.Query c.args.text.now) [] at
+    (whole-alone _ _ c.args.id (request.Query c.args.text.now) (reply.QueryFault c.in_ok-kind.kind c.in_ok-kind.at) (c.in_ok-kind.kind, c.in_ok-kind.at, refl, has))) c.say_reply.ensures.ok
+
+pub returns-in_default-clause-err : goal.returns-in_default-clause-err
+returns-in_default-clause-err g c =
+    let o = c.in_ok-question.ensures in
+    let rests = rw c.in_default.is at o.ok in
+    let at = rested-at _ c.args.id c.args.text.now c.requires _ rests.1 o.unrefused o.fixed in
+    let noise = c.noise.ensures.noise ∙ ap (λ (t : Terms). t.noise) at.remains.told.terms in
+    let has = subst (λ ws. HasFault ws c.args.text.now c.in_ok-kind.kind c.in_ok-kind.at) noise c.in_ok-kind.ensures in
+    IfErr-map c.say_reply.result (λ fault stops. stops c.args.catalog.now (request.Query c.args.text.now) [] at (inl ([], Begins))
+    (whole-alone _ _ c.args.id (request.Query c.args.text.now) (reply.QueryFault c.in_ok-kind.kind c.in_ok-kind.at) (c.in_ok-kind.kind, c.in_ok-kind.at, refl, has))) c.say_reply.ensures.err
 
 pub returns-in_err-kind-clause-err : goal.returns-in_err-kind-clause-err
 returns-in_err-kind-clause-err g c =

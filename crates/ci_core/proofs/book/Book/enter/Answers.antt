@@ -15,4 +15,4 @@ pub returns-in_err-lines-clause-refused : goal.returns-in_err-lines-clause-refus
 returns-in_err-lines-clause-refused g c =
     let p = err_from_is_err_and c.from_residual-in_err-lines.result c.from_residual-in_err-lines.ensures.1 in
     let small = subst (λ (sheet : Sheet). sheet.limit ≤ JOURNAL_MOST) c.self.view_is c.self.invariant.small in
-    rw (p.1, p.2) (Starves-from_IsReady _ _ _ _ small c.bytes-more.ensures c.in_ok-prepare.ensures.ok)
+    rw (p.1, p.2) (Starves-from_IsReady _ _ _ _ _ small c.bytes-more.ensures c.in_ok-prepare.ensures.ok)

@@ -3,18 +3,18 @@ use Rattle.ci_journal.specs.declared.event.Happened.TheVariants.{Answered}
 use Rattle.ci_journal.specs.Step.{MayAnswer}
 use Rattle.ci_journal.specs.Tells.{event}
 use Rattle.ci_core.specs.Core.{Core}
-use Rattle.ci_core.proofs.CatalogLemmas.{IsCatalog-step, IsStep, KeepsFixed-step, told-as}
+use Rattle.ci_core.proofs.CatalogLemmas.{IsCatalog-step, IsMade, KeepsFixed-step, told-as}
 use Rattle.ci_core.proofs.catalog.Catalog.answer.Goals as goal
 
-step : (g : _) (c : goal.After-keep g) → IsStep c.self.inside.holdings c.answer-made.new.self c.self.inside.refusal (event c.args.by (Answered c.args.id c.args.at c.args.paths)) c.answer-made.result c.keep.new.refusal
+step : (g : _) (c : goal.After-keep g) → IsMade c.self.inside.holdings c.answer-made.new.self c.self.inside.refusal (event c.args.by (Answered c.args.id c.args.at c.args.paths)) c.answer-made.result c.keep.new.refusal
 step g c =
     let old : Core = c.self.inside.holdings in
     let place : c.in_ok-place.place ≡ length old.sheet.events = c.in_ok-place.ensures.at ∙ ap (λ (core : Core). length core.sheet.events) (sym c.self.view_is) in
     record {
       unrefused = ap (λ (core : Core). core.refusal) c.self.view_is ∙ c.in_ok-place.ensures.unrefused;
       may = subst (λ (core : Core). MayAnswer core.terms core.sheet.events c.args.id c.args.at c.args.paths) (sym c.self.view_is) c.requires;
-      ok = c.answer-made.ensures.ok;
-      err = c.answer-made.ensures.refused;
+      ok = c.answer-made.ensures.step.ok;
+      err = c.answer-made.ensures.step.refused;
       kept = c.keep.ensures.ok;
       told = told-as c.answer-made.result c.keep.new.refusal c.args.by _ _ _ _ place c.answered-tried.ensures c.keep.ensures.err;
     }

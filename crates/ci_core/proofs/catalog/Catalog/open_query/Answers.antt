@@ -5,14 +5,14 @@ use Rattle.ci_journal.specs.Tells.{event}
 use Rattle.ci_core.specs.Core.{Core}
 use Rattle.ci_core.specs.Opening.{NoneWaits}
 use Rattle.ci_core.specs.Refusals.{Halts}
-use Rattle.ci_core.proofs.CatalogLemmas.{IsCatalog-step, IsStep, KeepsFixed-step, OpensFirst-kept, Refuses-step, RefusesOpening-of, Rests-refl, halts-first, opening-made, told-as}
+use Rattle.ci_core.proofs.CatalogLemmas.{IsCatalog-step, IsMade, KeepsFixed-step, OpensFirst-kept, Refuses-step, RefusesOpening-of, Rests-refl, halts-first, opening-made, told-as}
 use Rattle.ci_core.proofs.catalog.Catalog.open_query.Goals as goal
 
 pub returns-in_default-clause-ok : goal.returns-in_default-clause-ok
 returns-in_default-clause-ok g c =
     (subst (λ (core : Core). NoneWaits core.terms core.sheet.events) c.self.view_is c.in_default.ensures.none, Rests-refl c.args.self.now)
 
-step : (g : _) (c : goal.After-keep g) → IsStep c.self.inside.holdings c.open_query-made.new.self c.self.inside.refusal (event c.args.by (Opened c.in-Some.id)) c.open_query-made.result c.keep.new.refusal
+step : (g : _) (c : goal.After-keep g) → IsMade c.self.inside.holdings c.open_query-made.new.self c.self.inside.refusal (event c.args.by (Opened c.in-Some.id)) c.open_query-made.result c.keep.new.refusal
 step g c =
     let old : Core = c.self.inside.holdings in
     let place : c.in_ok-at.at ≡ length old.sheet.events = c.in_ok-at.ensures.at ∙ ap (λ (core : Core). length core.sheet.events) (sym c.self.view_is) in

@@ -3,18 +3,18 @@ use Rattle.ci_journal.specs.declared.event.Happened.TheVariants.{Said}
 use Rattle.ci_journal.specs.Step.{MaySay}
 use Rattle.ci_journal.specs.Tells.{event}
 use Rattle.ci_core.specs.Core.{Core}
-use Rattle.ci_core.proofs.CatalogLemmas.{IsCatalog-step, IsStep, told-as}
+use Rattle.ci_core.proofs.CatalogLemmas.{IsCatalog-step, IsMade, told-as}
 use Rattle.ci_core.proofs.catalog.Catalog.say.Goals as goal
 
 pub invariant_of-self : goal.invariant_of-self
 invariant_of-self g c =
     let old : Core = c.self.inside.holdings in
     let place : c.in_ok-at.at ≡ length old.sheet.events = c.in_ok-at.ensures.at ∙ ap (λ (core : Core). length core.sheet.events) (sym c.self.view_is) in
-    let step : IsStep old c.say-made.new.self c.self.inside.refusal (event c.args.by (Said c.args.id c.args.reply)) c.say-made.result c.keep.new.refusal = record {
+    let step : IsMade old c.say-made.new.self c.self.inside.refusal (event c.args.by (Said c.args.id c.args.reply)) c.say-made.result c.keep.new.refusal = record {
       unrefused = ap (λ (core : Core). core.refusal) c.self.view_is ∙ c.in_ok-at.ensures.unrefused;
       may = subst (λ (core : Core). MaySay core.sheet.events c.args.id) (sym c.self.view_is) c.requires;
-      ok = c.say-made.ensures.ok;
-      err = c.say-made.ensures.refused;
+      ok = c.say-made.ensures.step.ok;
+      err = c.say-made.ensures.step.refused;
       kept = c.keep.ensures.ok;
       told = told-as c.say-made.result c.keep.new.refusal c.args.by _ _ _ _ place c.said-tried.ensures c.keep.ensures.err;
     } in

@@ -1,6 +1,8 @@
 use Rattle.std.proofs.Common.{◌≡◌, ◌∙◌, ◌++◌, All, ap, map, subst, sym, true}
 use Rattle.ci_change.specs.HandedIn.{HandedIn}
 use Rattle.ci_journal.specs.Terms.{Served}
+use Rattle.ci_journal.specs.declared.event.Happened.TheVariants.{BatchDone}
+use Rattle.ci_journal.specs.Bytes.{capped, event_bytes}
 use Rattle.ci_core.specs.Batches.{CanFinish}
 use Rattle.ci_core.specs.Core.{Core}
 use Rattle.ci_core.specs.Serving.{entry_from, serve_entries}
@@ -42,6 +44,6 @@ invariant_of-self-2 g c =
     λ s numbers stood. subst (λ es. StandFor (serve_entries s c.args.batch.now.docs es).documents c.serve_all.new.documents.entries) entries
     (subst (λ ds. StandFor (serve_entries s ds c.in_ok-entries.entries.items).documents c.serve_all.new.documents.entries) docs (c.serve_all.ensures.stands s numbers stood)) in (
       c.self.invariant.0,
-      finished-kept _ _ _ c.self.invariant.1 _ _ c.args.by c.args.batch.now c.args.outcomes _ _ c.make_places.new.documents.entries _ may c.requires.done c.in_ok-prepare.ensures.ok.stays
+      finished-kept _ _ _ c.self.invariant.1 _ _ c.args.by c.args.batch.now c.args.outcomes _ _ c.make_places.new.documents.entries _ may c.requires.done _ (c.done_bytes.ensures ∙ ap (λ os. capped (event_bytes (BatchDone c.args.batch.now.number os))) c.items.ensures) c.in_ok-prepare.ensures.ok
           c.in_ok-make_places.ensures.keeps served c.give_back.ensures stands c.add.ensures,
     )

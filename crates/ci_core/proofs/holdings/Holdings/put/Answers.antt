@@ -3,7 +3,7 @@ use Rattle.ci_change.specs.declared.notice.What.TheVariants.{Changed}
 use Rattle.ci_journal.specs.Step.{MayPut}
 use Rattle.ci_journal.specs.declared.event.Happened.TheVariants.{Put}
 use Rattle.ci_journal.specs.Tells.{event}
-use Rattle.ci_core.specs.Changes.{Adds}
+use Rattle.ci_core.specs.Changes.{Puts}
 use Rattle.ci_core.specs.Core.{Core}
 use Rattle.ci_core.proofs.KeptLemmas.{IsHolding-placed, IsHolding-stays, IsHolding-tracked, LacksRoom-stays}
 use Rattle.ci_core.proofs.StepLemmas.{put-kept}
@@ -30,8 +30,8 @@ pub invariant_of-self-2 : goal.invariant_of-self-2
 invariant_of-self-2 g c =
     let may = subst (λ (core : Core). MayPut core.terms core.sheet.events c.args.by (record { path = c.args.path.now; seq = c.args.seq; what = Changed })) (sym c.self.view_is) c.requires in
     let filled = c.in_ok-entry-2.ensures ∙ c.in_ok-entry.ensures.entry in
-    let added = subst (λ path. Adds c.prepare.new.self c.add.new.self (event c.args.by (Put path c.args.seq c.args.transcript))) c.in_ok-copied.ensures c.add.ensures in (
+    let added = subst (λ path. Puts c.prepare.new.self c.add.new.self (event c.args.by (Put path c.args.seq c.args.transcript))) c.in_ok-copied.ensures c.add.ensures in (
       c.self.invariant.0,
       put-kept _ _ _ c.self.invariant.1 _ _ c.args.by c.args.path.now c.args.seq c.served_of-served.result c.args.transcript c.in_ok-entry-2.entry _ c.make_place.new.documents.entries _ may
-          c.in_ok-prepare.ensures.ok.stays filled c.served_of-served.ensures c.in_ok-served.ensures.ok c.make_place.ensures.keeps c.serve.ensures added,
+          _ c.put_bytes.ensures c.in_ok-prepare.ensures.ok filled c.served_of-served.ensures c.in_ok-served.ensures.ok c.make_place.ensures.keeps c.serve.ensures added,
     )

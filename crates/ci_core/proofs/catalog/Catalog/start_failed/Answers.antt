@@ -1,0 +1,20 @@
+use Rattle.std.proofs.Common.{◌≡◌, ◌∙◌, length, ap, sym}
+use Rattle.ci_journal.specs.declared.event.Happened.TheVariants.{StartFailed}
+use Rattle.ci_journal.specs.Tells.{event}
+use Rattle.ci_core.specs.Core.{Core}
+use Rattle.ci_core.proofs.CatalogLemmas.{IsCatalog-step, IsMade, told-as}
+use Rattle.ci_core.proofs.catalog.Catalog.start_failed.Goals as goal
+
+pub invariant_of-self : goal.invariant_of-self
+invariant_of-self g c =
+    let old : Core = c.self.inside.holdings in
+    let place : c.in_ok-at.at ≡ length old.sheet.events = c.in_ok-at.ensures.at ∙ ap (λ (core : Core). length core.sheet.events) (sym c.self.view_is) in
+    let step : IsMade old c.start_failed-made.new.self c.self.inside.refusal (event c.args.by StartFailed) c.start_failed-made.result c.keep.new.refusal = record {
+      unrefused = ap (λ (core : Core). core.refusal) c.self.view_is ∙ c.in_ok-at.ensures.unrefused;
+      may = tt;
+      ok = c.start_failed-made.ensures.step.ok;
+      err = c.start_failed-made.ensures.step.refused;
+      kept = c.keep.ensures.ok;
+      told = told-as c.start_failed-made.result c.keep.new.refusal c.args.by _ _ _ _ place c.start_failed-tried.ensures c.keep.ensures.err;
+    } in
+    IsCatalog-step old _ _ _ c.start_failed-made.result c.keep.new.refusal step c.self.invariant
