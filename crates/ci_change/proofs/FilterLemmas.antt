@@ -1,5 +1,15 @@
 -- Two filters, one after the other.
-use Rattle.std.proofs.Common.{◌≡◌, ◌&&◌, suc, suc-le-suc, Bool, true, false, cond, List, [], ◌∷◌, All, filter, refl, ap, ◌∙◌, arith}
+use Rattle.std.proofs.Common.{◌≡◌, ◌==◌, ◌&&◌, ◌||◌, ◌<◌, ◌+◌, ℕ, suc, suc-le-suc, take, Bool, true, false, cond, List, [], ◌∷◌, All, not, filter, length, get_or, refl, sym, ap, ◌∙◌, arith}
+use Rattle.std.proofs.lemmas.Bool.Decides.{nat_tests}
+use Rattle.std.proofs.Math.Seq.{take-suc}
+use Rattle.std.proofs.lemmas.List.Folds.{list_any-append}
+use Rattle.std.specs.List.{list_any}
+
+and-swap : (a b : Bool) → (a && b) ≡ (b && a)
+and-swap true true = refl
+and-swap true false = refl
+and-swap false true = refl
+and-swap false false = refl
 
 module _ {X : Type 0} where
   fused-cons : (more : X → Bool) (x : X) (xs ys : List X) (strong weak : Bool) → strong ≡ (weak && more x) → xs ≡ filter more ys → cond strong (x ∷ xs) xs ≡ filter more (cond weak (x ∷ ys) ys)
@@ -23,7 +33,42 @@ module _ {X : Type 0} where
   filter-agreed first one other (x ∷ xs) all =
       agreed-cons one other x (filter first xs) (first x) (all 0 x (omega arith)) (filter-agreed first one other xs (λ k d within. all (suc k) d (suc-le-suc within)))
 
+  -- the order of two filters doesn't matter
+  pub filter-swapped : (one other : X → Bool) (xs : List X) → filter one (filter other xs) ≡ filter other (filter one xs)
+  filter-swapped one other xs =
+      sym (filter-fused (λ x. other x && one x) other one xs (λ k d within. refl))
+      ∙ filter-fused (λ x. other x && one x) one other xs (λ k d within. and-swap (other (get_or xs k d)) (one (get_or xs k d)))
+
   -- a test that all pass leaves all
   pub filter-all : (test : X → Bool) (xs : List X) → All (λ x. test x ≡ true) xs → filter test xs ≡ xs
   filter-all test [] all = refl
   filter-all test (x ∷ xs) all = ap (λ b. cond b (x ∷ filter test xs) (filter test xs)) (all 0 x (omega arith)) ∙ ap (λ ys. x ∷ ys) (filter-all test xs (λ k d within. all (suc k) d (suc-le-suc within)))
+
+  -- one of the next and of those before passes where one of those up to it does
+  pub any-next : (test : X → Bool) (xs : List X) (i : ℕ) (x d : X) → x ≡ get_or xs i d → i < length xs → list_any test (take (i + 1) xs) ≡ (list_any test (take i xs) || test x)
+  any-next test xs i x d is within =
+      let next : i + 1 ≡ suc i = omega arith in
+      ap (λ n. list_any test (take n xs)) next ∙ ap (list_any test) (take-suc xs i d within) ∙ list_any-append test (take i xs) (get_or xs i d ∷ [])
+      ∙ ap (λ b. list_any test (take i xs) || b) (or-none (test (get_or xs i d))) ∙ ap (λ y. list_any test (take i xs) || test y) (sym is)
+    where
+      or-none : (b : Bool) → (b || false) ≡ b
+      or-none true = refl
+      or-none false = refl
+
+  -- one of those that pass a first test passes where one passes both
+  pub any-both : (first test : X → Bool) (xs : List X) → list_any test (filter first xs) ≡ list_any (λ x. first x && test x) xs
+  any-both first test [] = refl
+  any-both first test (x ∷ xs) = by (first x) ∙ ap (λ b. (first x && test x) || b) (any-both first test xs)
+    where
+      by : (b : Bool) → list_any test (cond b (x ∷ filter first xs) (filter first xs)) ≡ ((b && test x) || list_any test (filter first xs))
+      by true = refl
+      by false = refl
+
+  any-cond : (b any : Bool) (x : X) (passed : List X) → any ≡ not (length passed == 0) → (b || any) ≡ not (length (cond b (x ∷ passed) passed) == 0)
+  any-cond true any x passed same = grind (arith, nat_tests)
+  any-cond false any x passed same = same
+
+  -- one passes where those that pass aren't none
+  pub any-filter : (test : X → Bool) (xs : List X) → list_any test xs ≡ not (length (filter test xs) == 0)
+  any-filter test [] = refl
+  any-filter test (x ∷ xs) = any-cond (test x) (list_any test xs) x (filter test xs) (any-filter test xs)

@@ -1,5 +1,6 @@
--- The pending notice with a number, among those of an order.
-use Rattle.std.proofs.Common.{◌≡◌, ◌==◌, ℕ, Bool, true, false, List, [], ◌∷◌, map, option_to_list, refl, ap, subst, arith, Less}
+-- The unserved notice with a number, among those of an order.
+use Rattle.std.proofs.Common.{◌≡◌, ◌==◌, ℕ, Bool, true, false, cond, List, [], ◌∷◌, map, length, option_to_list, is_some, Option, None, Some, refl, sym, ap, subst, ◌∙◌, arith, Less}
+use Rattle.std.proofs.lemmas.List.{length-map}
 use Rattle.std.proofs.lemmas.Bool.Decides.{nat_tests}
 use Rattle.std.specs.BTreeMap.{is_at}
 use Rattle.std.specs.List.{AllByRecursion}
@@ -39,3 +40,16 @@ module _ (rows : List (List ℕ × Numbers)) (k : ℕ) where
   unfolding IsStrictlySortedBy
   kinds-found [] ordered = refl
   kinds-found (e ∷ order) ordered = found-first e order _ refl ordered.0 (kinds-found order ordered.1)
+
+abbrev pub one_if : Bool → ℕ
+one_if b = cond b 1 0
+
+-- so many have it: one where the order has the number
+pub count-found : (rows : List (List ℕ × Numbers)) (k : ℕ) (order : List (ℕ × Entry)) (has : Bool) → IsStrictlySortedBy nat_cmp (keys_of order) → has ≡ is_some (lookup (is_at (nat_cmp k)) order)
+    → length (with_number k (map (notice_at rows) order)) ≡ one_if has
+count-found rows k order has ordered is =
+    sym (length-map _ _) ∙ ap length (kinds-found rows k order ordered) ∙ by (lookup (is_at (nat_cmp k)) order) ∙ ap one_if (sym is)
+  where
+    by : (o : Option Entry) → length (option_to_list (option_map (kind_at k) o)) ≡ one_if (is_some o)
+    by None = refl
+    by (Some e) = refl

@@ -1,6 +1,7 @@
 -- Entries by ascending numbers.
-use Rattle.std.proofs.Common.{◌≡◌, ◌==◌, ℕ, ◌<◌, Bool, true, false, not, cond, List, [], ◌∷◌, ◌++◌, All, filter, suc, suc-le-suc, refl, sym, ap, subst, ◌∙◌, arith, Less, Greater}
+use Rattle.std.proofs.Common.{◌≡◌, ◌==◌, ℕ, ◌<◌, Bool, true, false, not, cond, List, [], ◌∷◌, ◌++◌, All, filter, suc, suc-le-suc, append-nil, refl, sym, ap, subst, ◌∙◌, arith, Less, Greater}
 use Rattle.std.proofs.lemmas.Bool.Decides.{nat_tests}
+use Rattle.std.proofs.lemmas.List.Elements.{filter-append}
 use Rattle.std.specs.BTreeMap.{insert_entry, is_at}
 use Rattle.std.specs.List.{AllByRecursion}
 use Rattle.std.specs.List.Sorted.{IsStrictlySortedBy}
@@ -42,3 +43,19 @@ module _ {X : Type 0} where
   unfolding IsStrictlySortedBy
   remove_entry-filter [] k ordered = refl
   remove_entry-filter (e ∷ es) k ordered = remove_entry-first e es k _ refl ordered.0 (remove_entry-filter es k ordered.1)
+
+  -- a number above all others is that of none
+  pub without-newest : (es : List (ℕ × X)) (k : ℕ) → All (λ e. e.0 < k) es → filter (λ e. not (e.0 == k)) es ≡ es
+  without-newest [] k below = refl
+  without-newest (e ∷ es) k below =
+      let first = below 0 e (omega arith) in
+      let other : (e.0 == k) ≡ false = grind (arith, nat_tests, first) in
+      ap (λ b. cond (not b) (e ∷ filter (λ f. not (f.0 == k)) es) (filter (λ f. not (f.0 == k)) es)) other
+      ∙ ap (λ t. e ∷ t) (without-newest es k (λ i d within. below (suc i) d (suc-le-suc within)))
+
+  -- what was appended is taken out again
+  pub without-appended : (es : List (ℕ × X)) (k : ℕ) (x : X) → All (λ e. e.0 < k) es → filter (λ e. not (e.0 == k)) (es ++ (k, x) ∷ []) ≡ es
+  without-appended es k x below =
+      let same : (k == k) ≡ true = grind (arith, nat_tests) in
+      filter-append (λ e. not (e.0 == k)) es ((k, x) ∷ []) ∙ ap (λ b. filter (λ e. not (e.0 == k)) es ++ cond (not b) ((k, x) ∷ []) []) same
+      ∙ append-nil (filter (λ e. not (e.0 == k)) es) ∙ without-newest es k below

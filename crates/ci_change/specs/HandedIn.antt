@@ -10,26 +10,32 @@ use Rattle.ci_change.specs.declared.notice.What.{What}
 abbrev pub notice_of : List ℕ → Seq → What → Notice
 notice_of path seq what = record { path = path; seq = seq; what = what }
 
--- the notices and the served numbers of paths, each list in the order in which they came
+-- the notices, the served numbers of paths and the charges, each in the order in which they came
 pub record History : Type 0 where
   pub notices : List Notice
   pub served : List (List ℕ × Seq)
+  pub charges : List (List ℕ × Seq)
 
 -- such a history, and in how many steps it came
 pub record Remembered : Type 0 where
   pub history : History
   pub steps : ℕ
 
--- notices and served numbers, with the batches that are out, and how often a document is to be tried
+-- such a history, with the batches that are out, and how often a notice is to be tried
 pub record HandedIn : Type 0 where
   pub notices : List Notice
   pub served : List (List ℕ × Seq)
+  pub charges : List (List ℕ × Seq)
   pub out : List Batch
   pub retries : ℕ
 
+abbrev pub no_history : History
+no_history = record { notices = []; served = []; charges = [] }
+
 -- nothing yet
 abbrev pub nothing : ℕ → HandedIn
-nothing retries = record { notices = []; served = []; out = []; retries = retries }
+nothing retries =
+    record { notices = []; served = []; charges = []; out = []; retries = retries }
 
 -- one notice more
 abbrev pub with_notice : HandedIn → Notice → HandedIn
@@ -43,6 +49,10 @@ with_served handed path seq = record handed { served = handed.served ++ (path, s
 abbrev pub with_batch : HandedIn → Batch → HandedIn
 with_batch handed batch =
     record handed { out = if length batch.docs == 0 then handed.out else handed.out ++ batch ∷ [] }
+
+-- the batches with a number
+abbrev pub numbered : ℕ → List Batch → List Batch
+numbered number batches = filter (λ b. b.number == number) batches
 
 -- the batch with the number is out no more
 abbrev pub without_batch : HandedIn → ℕ → HandedIn

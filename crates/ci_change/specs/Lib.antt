@@ -1,4 +1,5 @@
 pub mod ChangeList
+pub mod Charges
 pub mod HandedIn
 pub mod Order
 pub mod Past

@@ -1,5 +1,5 @@
--- The pending notices by number, as a register keeps them: each entry names the place of its path.
-use Rattle.std.specs.Prelude.{◌==◌, ◌<◌, ◌++◌, ℕ, not, nat_le, nat_lt, All, List, [], ◌∷◌, filter, length, if◌then◌else◌}
+-- The unserved notices by number, as a register keeps them: each entry names the place of its path.
+use Rattle.std.specs.Prelude.{◌==◌, ◌&&◌, ◌<◌, ◌++◌, ℕ, Bool, not, nat_le, nat_lt, All, List, [], ◌∷◌, filter, length, if◌then◌else◌}
 use Rattle.std.specs.List.Sorted.{IsStrictlySortedBy}
 use Rattle.std.specs.Map.{keys_of}
 use Rattle.std.specs.Ordering.{nat_cmp}
@@ -10,11 +10,18 @@ use Rattle.ci_change.specs.declared.rows.Numbers.{Numbers}
 abbrev pub without_entry : ℕ → List (ℕ × Entry) → List (ℕ × Entry)
 without_entry number order = filter (λ e. not (e.0 == number)) order
 
--- the entries when a path with these numbers has a newer one, which waits if it isn't served
-abbrev pub renewed : List (ℕ × Entry) → Numbers → ℕ × Entry → List (ℕ × Entry)
-renewed order numbers newest =
+-- the entries when a path with these numbers has a newer one, which joins them if it isn't served
+abbrev pub renewed : List (ℕ × Entry) → Numbers → ℕ × Entry → Bool → List (ℕ × Entry)
+renewed order numbers newest joins =
     without_entry numbers.latest order
-    ++ (if nat_lt numbers.served newest.0 then newest ∷ [] else [])
+    ++ (if joins && nat_lt numbers.served newest.0 then newest ∷ [] else [])
+
+-- the entries when the notice with a path's latest number was tried so often
+abbrev pub given_up : List (ℕ × Entry) → Numbers → ℕ → List (ℕ × Entry)
+given_up order numbers retries =
+    if nat_lt 0 numbers.latest && nat_le retries numbers.attempts
+    then without_entry numbers.latest order
+    else order
 
 -- the entries when a path whose latest number this is was served up to a number
 abbrev pub retired : List (ℕ × Entry) → ℕ → ℕ → List (ℕ × Entry)

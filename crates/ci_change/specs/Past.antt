@@ -1,12 +1,13 @@
 -- What `Steps` remembers.
 use Rattle.std.specs.Prelude.{[], ◌∷◌, ◌++◌, ◌+◌}
-use Rattle.ci_change.specs.HandedIn.{Remembered, notice_of}
+use Rattle.ci_change.specs.Charges.{charges_with}
+use Rattle.ci_change.specs.HandedIn.{Remembered, no_history, notice_of}
 use Rattle.ci_change.specs.declared.steps.Step.{Step}
-use Rattle.ci_change.specs.declared.steps.Step.TheVariants.{Start, Noted, Served, Same}
+use Rattle.ci_change.specs.declared.steps.Step.TheVariants.{Start, Noted, Served, Charged, Same}
 
 -- what was handed in before the last step, and in it
 abbrev pub handed_in : Step → Remembered
-handed_in Start = record { history = record { notices = []; served = [] }; steps = 0 }
+handed_in Start = record { history = no_history; steps = 0 }
 handed_in (Noted before path seq what) =
     let past = before.value.history in
     record {
@@ -17,6 +18,12 @@ handed_in (Served before path seq) =
     let past = before.value.history in
     record {
       history = record past { served = past.served ++ (path.value, seq) ∷ [] };
+      steps = before.value.steps + 1;
+    }
+handed_in (Charged before path seq) =
+    let past = before.value.history in
+    record {
+      history = record past { charges = charges_with past.notices past.charges path.value seq };
       steps = before.value.steps + 1;
     }
 handed_in (Same before) =

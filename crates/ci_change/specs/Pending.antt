@@ -1,5 +1,5 @@
--- Which notices are pending, and which of these a batch may take.
-use Rattle.std.specs.Prelude.{◌==◌, ℕ, Bool, true, false, ◌&&◌, not, max, nat_lt, List, [], ◌∷◌, bytes_eq, filter, map, IsPermutation}
+-- Which notices are pending, which are set aside as unfiltered, and which a batch may take.
+use Rattle.std.specs.Prelude.{◌==◌, ℕ, Bool, true, false, ◌&&◌, not, max, nat_le, nat_lt, List, [], ◌∷◌, bytes_eq, count_by, filter, map, IsPermutation}
 use Rattle.std.specs.Cmp.Lexicographic.{slice_cmp}
 use Rattle.std.specs.List.{list_any}
 use Rattle.std.specs.List.Sorted.{IsSortedByKey}
@@ -26,18 +26,37 @@ abbrev pub served_number : List (List ℕ × Seq) → List ℕ → ℕ
 served_number served path =
     greatest (map (λ s. s.1.0) (filter (λ s. bytes_eq s.0 path) served))
 
--- a notice is pending where it is the latest of its path, and above the path's served number
-abbrev pub is_pending : List Notice → List (List ℕ × Seq) → Notice → Bool
-is_pending notices served n =
+-- a notice is unserved where it is the latest of its path, and above the path's served number
+abbrev pub is_unserved : List Notice → List (List ℕ × Seq) → Notice → Bool
+is_unserved notices served n =
     (n.seq.0 == latest_number notices n.path) && nat_lt (served_number served n.path) n.seq.0
 
--- the pending ones of some notices, under these served numbers
-abbrev pub pending_of : List Notice → List (List ℕ × Seq) → List Notice
-pending_of notices served = filter (is_pending notices served) notices
+-- the unserved ones of some notices, under these served numbers
+abbrev pub unserved_of : List Notice → List (List ℕ × Seq) → List Notice
+unserved_of notices served = filter (is_unserved notices served) notices
 
--- the pending notices, in the order in which they came
+abbrev pub unserved : HandedIn → List Notice
+unserved handed = unserved_of handed.notices handed.served
+
+-- how many charges name a path and a number
+abbrev pub charges_of : List (List ℕ × Seq) → List ℕ → ℕ → ℕ
+charges_of charges path number = count_by (λ c. bytes_eq c.0 path && c.1.0 == number) charges
+
+-- how often a notice was tried and failed
+abbrev pub attempts : List (List ℕ × Seq) → Notice → ℕ
+attempts charges n = charges_of charges n.path n.seq.0
+
+-- it failed as often as it is to be tried
+abbrev pub is_spent : ℕ → List (List ℕ × Seq) → Notice → Bool
+is_spent retries charges n = nat_le retries (attempts charges n)
+
+-- the unserved notices that are still to be tried, in the order in which they came
 abbrev pub pending : HandedIn → List Notice
-pending handed = pending_of handed.notices handed.served
+pending handed = filter (λ n. not (is_spent handed.retries handed.charges n)) (unserved handed)
+
+-- the unserved notices that were tried in vain, and are set aside
+abbrev pub unfiltered : HandedIn → List Notice
+unfiltered handed = filter (is_spent handed.retries handed.charges) (unserved handed)
 
 -- the notices with a number
 abbrev pub with_number : ℕ → List Notice → List Notice
@@ -54,6 +73,10 @@ kinds notices = map (λ n. (n.seq, n.what)) notices
 abbrev pub is_changed : What → Bool
 is_changed Changed = true
 is_changed Deleted = false
+
+-- its document was changed
+abbrev pub is_change : Notice → Bool
+is_change n = is_changed n.what
 
 -- one of the documents has the path
 abbrev pub has_path : List (List ℕ × Seq) → List ℕ → Bool
@@ -74,6 +97,14 @@ free handed = filter (is_free handed.out) (pending handed)
 -- the documents of some notices, each with the number of its notice
 abbrev pub docs_of : List Notice → List (List ℕ × Seq)
 docs_of notices = map (λ n. (n.path, n.seq)) notices
+
+abbrev pub paths_of : List Notice → List (List ℕ)
+paths_of notices = map (λ n. n.path) notices
+
+-- the same paths, in byte order
+pub record ListsPaths (paths list : List (List ℕ)) : Type 0 where
+  pub same : IsPermutation paths list
+  pub order : IsSortedByKey (λ p. p) (slice_cmp nat_cmp) list
 
 -- the same notices, in byte order of their paths
 pub record ListsByPath (notices list : List Notice) : Type 0 where

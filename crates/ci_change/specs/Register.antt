@@ -1,5 +1,5 @@
--- What a register shows: the rows of paths, and the pending notices in order.
-use Rattle.std.specs.Prelude.{◌≡◌, ◌==◌, ◌++◌, ℕ, max, not, nat_le, nat_lt, IsTrue, List, [], ◌∷◌, filter, map, if◌then◌else◌}
+-- What a register shows: the rows of paths, and in order the unserved notices and the ready ones.
+use Rattle.std.specs.Prelude.{◌≡◌, ◌==◌, ◌&&◌, ◌<◌, ◌++◌, ◌+◌, ◌-◌, ◌^◌, ℕ, Bool, true, max, min, not, nat_le, nat_lt, IsTrue, List, [], ◌∷◌, All, bytes_eq, filter, length, map, if◌then◌else◌}
 use Rattle.ci_change.specs.declared.notice.Notice.{Notice}
 use Rattle.ci_change.specs.declared.order.Entry.{Entry}
 use Rattle.ci_change.specs.declared.rows.Numbers.{Numbers}
@@ -8,47 +8,122 @@ use Rattle.ci_change.specs.Rows.{has_row, numbers_at, path_in, Puts}
 
 pub record Kept : Type 0 where
   pub rows : List (List ℕ × Numbers)
-  pub pending : List Notice
+  pub unserved : List Notice
+  pub ready : List Notice
 
 -- the notice of an entry of the order
 abbrev pub notice_at : List (List ℕ × Numbers) → ℕ × Entry → Notice
 notice_at rows entry =
     notice_of (path_in rows entry.1.place) (record { 0 = entry.0 }) entry.1.what
 
--- the rows and the order, as they are shown
-abbrev pub kept_of : List (List ℕ × Numbers) → List (ℕ × Entry) → Kept
-kept_of rows order = record { rows = rows; pending = map (notice_at rows) order }
+-- the rows and the two orders, as they are shown
+abbrev pub kept_of : List (List ℕ × Numbers) → List (ℕ × Entry) → List (ℕ × Entry) → Kept
+kept_of rows order ready = record {
+  rows = rows;
+  unserved = map (notice_at rows) order;
+  ready = map (notice_at rows) ready;
+}
 
 -- the notices without the one at a number
 abbrev pub without_number : ℕ → List Notice → List Notice
 without_number number notices = filter (λ n. not (n.seq.0 == number)) notices
 
--- the pending notices when a path with these numbers has a newer one
-abbrev pub with_newest : List Notice → Numbers → Notice → List Notice
-with_newest pending numbers notice =
-    without_number numbers.latest pending
-    ++ (if nat_lt numbers.served notice.seq.0 then notice ∷ [] else [])
+-- the notices when a path with these numbers has a newer one, which joins them if it isn't served
+abbrev pub with_newest : List Notice → Numbers → Notice → Bool → List Notice
+with_newest notices numbers notice joins =
+    without_number numbers.latest notices
+    ++ (if joins && nat_lt numbers.served notice.seq.0 then notice ∷ [] else [])
 
--- the pending notices when a path whose latest number this is was served up to a number
+-- the notices when a path whose latest number this is was served up to a number
 abbrev pub without_served : List Notice → ℕ → ℕ → List Notice
-without_served pending latest served =
-    if nat_le latest served then without_number latest pending else pending
+without_served notices latest served =
+    if nat_le latest served then without_number latest notices else notices
 
--- the latest notice of its path is this one
-pub record Notes (old new : Kept) (notice : Notice) : Type 0 where
+-- a count as a row has it, which stands still at its type's end
+abbrev pub counted : ℕ → ℕ
+counted count = min count (2 ^ 32 - 1)
+
+-- a path's numbers when its latest notice was tried once more, where it has this number
+abbrev pub charged : Numbers → ℕ → Numbers
+charged numbers number =
+    if nat_lt 0 number && numbers.latest == number
+    then record numbers { attempts = counted (numbers.attempts + 1) }
+    else numbers
+
+-- the notices when the one with a path's latest number was tried so often
+abbrev pub without_tried : List Notice → Numbers → ℕ → List Notice
+without_tried notices numbers retries =
+    if nat_lt 0 numbers.latest && nat_le retries numbers.attempts
+    then without_number numbers.latest notices
+    else notices
+
+-- the latest notice of the path was tried as often as it is to be
+abbrev pub is_tried : List (List ℕ × Numbers) → ℕ → Notice → Bool
+is_tried rows retries n = nat_le retries (numbers_at rows n.path).attempts
+
+-- it is still to be tried
+abbrev pub waits : List (List ℕ × Numbers) → ℕ → Notice → Bool
+waits rows retries n = not (is_tried rows retries n)
+
+-- a notice is held where its path is in a batch that is out
+abbrev pub is_held : List (List ℕ × Numbers) → Notice → Bool
+is_held rows n = (numbers_at rows n.path).is_out
+
+-- it isn't held
+abbrev pub is_spare : List (List ℕ × Numbers) → Notice → Bool
+is_spare rows n = not (is_held rows n)
+
+-- so many ready notices are held
+abbrev pub IsCounted : Kept → ℕ → Type 0
+IsCounted kept count = count ≡ length (filter (is_held kept.rows) kept.ready)
+
+-- each ready notice with a lower number is held
+abbrev pub IsHeldBelow : Kept → ℕ → Type 0
+IsHeldBelow kept number =
+    All (λ n. n.seq.0 < number → is_held kept.rows n ≡ true) kept.ready
+
+-- the path's ready notices are those with the number of its latest one
+abbrev pub IsOwn : Kept → List ℕ → Type 0
+IsOwn kept path =
+    All (λ n. (n.seq.0 == (numbers_at kept.rows path).latest) ≡ bytes_eq n.path path) kept.ready
+
+-- the latest notice of its path is this one, which is ready where it joins the ready ones
+pub record Notes (old new : Kept) (notice : Notice) (joins : Bool) : Type 0 where
   pub rows : Puts old.rows new.rows notice.path
-      (record (numbers_at old.rows notice.path) { latest = notice.seq.0 })
-  pub pending : new.pending ≡ with_newest old.pending (numbers_at old.rows notice.path) notice
+      (record (numbers_at old.rows notice.path) { latest = notice.seq.0; attempts = 0 })
+  pub unserved :
+      new.unserved ≡ with_newest old.unserved (numbers_at old.rows notice.path) notice true
+  pub ready : new.ready ≡ with_newest old.ready (numbers_at old.rows notice.path) notice joins
 
 -- the path is served up to a number at least
 pub record Serves (old new : Kept) (path : List ℕ) (number : ℕ) : Type 0 where
   pub rows : Puts old.rows new.rows path
       (record (numbers_at old.rows path) { served = max (numbers_at old.rows path).served number })
-  pub pending :
-      new.pending ≡ without_served old.pending (numbers_at old.rows path).latest number
+  pub unserved :
+      new.unserved ≡ without_served old.unserved (numbers_at old.rows path).latest number
+  pub ready : new.ready ≡ without_served old.ready (numbers_at old.rows path).latest number
 
--- the same notices are pending, each path has its numbers, and no row is lost
+-- the path's latest notice was tried once more, where it has this number
+pub record Charges (old new : Kept) (path : List ℕ) (number retries : ℕ) : Type 0 where
+  pub numbers : (other : List ℕ) → numbers_at new.rows other
+      ≡ (if bytes_eq path other then charged (numbers_at old.rows path) number
+      else numbers_at old.rows other)
+  pub rows : (other : List ℕ) → IsTrue (has_row old.rows other) → IsTrue (has_row new.rows other)
+  pub unserved : new.unserved ≡ old.unserved
+  pub ready :
+      new.ready ≡ without_tried old.ready (charged (numbers_at old.rows path) number) retries
+
+-- the paths that pass come to be in a batch that is out, or in none, and nothing else changes
+pub record Marks (old new : Kept) (test : List ℕ → Bool) (mark : Bool) : Type 0 where
+  pub numbers : (path : List ℕ) → numbers_at new.rows path ≡ record (numbers_at old.rows path)
+      { is_out = if test path then mark else (numbers_at old.rows path).is_out }
+  pub rows : (path : List ℕ) → IsTrue (has_row old.rows path) → IsTrue (has_row new.rows path)
+  pub unserved : new.unserved ≡ old.unserved
+  pub ready : new.ready ≡ old.ready
+
+-- the same notices are unserved and ready, each path has its numbers, and no row is lost
 pub record Stays (old new : Kept) : Type 0 where
-  pub pending : new.pending ≡ old.pending
+  pub unserved : new.unserved ≡ old.unserved
+  pub ready : new.ready ≡ old.ready
   pub numbers : (path : List ℕ) → numbers_at new.rows path ≡ numbers_at old.rows path
   pub rows : (path : List ℕ) → IsTrue (has_row old.rows path) → IsTrue (has_row new.rows path)

@@ -1,11 +1,11 @@
 -- The rows of paths: each path has its numbers.
-use Rattle.std.specs.Prelude.{◌≡◌, ◌<◌, ◌≤◌, ◌||◌, ℕ, Bool, IsTrue, List, [], length, bytes_eq, unwrap_or, is_some, slice_index_or, if◌then◌else◌}
+use Rattle.std.specs.Prelude.{◌≡◌, ◌<◌, ◌≤◌, ◌||◌, ℕ, Bool, false, IsTrue, List, [], length, bytes_eq, unwrap_or, is_some, slice_index_or, if◌then◌else◌}
 use Rattle.std.specs.Map.{lookup, keys_of}
 use Rattle.ci_change.specs.declared.rows.Numbers.{Numbers}
 
 -- the numbers of a path without a row
 abbrev pub none : Numbers
-none = record { latest = 0; served = 0 }
+none = record { latest = 0; served = 0; attempts = 0; is_out = false }
 
 -- the path has a row
 abbrev pub has_row : List (List ℕ × Numbers) → List ℕ → Bool

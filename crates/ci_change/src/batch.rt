@@ -1,7 +1,7 @@
-ghost use Rattle.std.specs.Prelude.{◌≡◌, ◌&&◌, not, IfOk};
+ghost use Rattle.std.specs.Prelude.{◌≡◌, IfOk};
 ghost use Rattle.ci_change.specs.Pending as pending;
 
-use crate::{Docs, What};
+use crate::Docs;
 use ci_base::{OutOfMemory, PathText};
 use std::alloc::Global;
 
@@ -29,18 +29,4 @@ impl Batch {
             docs: self.docs.copy(alloc)?,
         })
     }
-}
-
-/// Whether one of the batches that are out has the path.
-fn is_out(out: &[Batch], path: &PathText) -> bool
-    ensures { result ≡ pending.is_out out.now path.now }
-{
-    out.iter().any(|batch| batch.has(path))
-}
-
-/// Whether a pending notice is free.
-pub fn is_free(out: &[Batch], path: &PathText, what: What) -> bool
-    ensures { result ≡ (pending.is_changed what && not (pending.is_out out.now path.now)) }
-{
-    what == What::Changed && !is_out(out, path)
 }

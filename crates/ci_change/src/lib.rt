@@ -4,6 +4,7 @@
 mod batch;
 mod change_list;
 mod docs;
+mod held;
 mod notice;
 mod order;
 mod past;

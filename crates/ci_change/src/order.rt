@@ -1,21 +1,21 @@
-ghost use Rattle.std.specs.Prelude.{◌≡◌, ◌<◌, ◌++◌, [], ◌∷◌, All, IfOk, OnOk, OnErr};
+ghost use Rattle.std.specs.Prelude.{◌≡◌, ◌<◌, ◌++◌, [], ◌∷◌, true, All, IfOk, OnOk, OnErr, if◌then◌else◌};
 ghost use Rattle.std.specs.BTreeMap.{IsOrdered};
 ghost use Rattle.std.specs.Ordering.{nat_cmp};
-ghost use Rattle.ci_change.specs.Order.{without_entry, renewed, retired};
+ghost use Rattle.ci_change.specs.Order.{without_entry, given_up, renewed, retired};
 
 use crate::What;
 use crate::rows::Numbers;
 use ci_base::OutOfMemory;
 use std::collections::BTreeMap;
 
-/// A pending notice, without its number: the place of its path, and what happened.
+/// An unserved notice, without its number: the place of its path, and what happened.
 #[derive(Clone, Copy, Debug)]
 pub struct Entry {
     pub place: usize,
     pub what: What,
 }
 
-/// Pending notices by their numbers, so in the order in which they came.
+/// Unserved notices by their numbers, so in the order in which they came.
 pub type Order = BTreeMap<u64, Entry>;
 
 /// Appends a notice whose number is above all others.
@@ -45,20 +45,78 @@ pub fn copy_order(order: &Order) -> Result<Order, OutOfMemory>
     Ok(order.clone()?)
 }
 
-/// Puts a path's newest notice in the place of the one it had. It is pending if it isn't served.
-pub fn renew(order: &mut Order, had: Numbers, number: u64, entry: Entry) -> Result<(), OutOfMemory>
+// Appends a notice to an order, and where it joins them, to the ready ones.
+fn enter(
+    order: &mut Order,
+    ready: &mut Order,
+    number: u64,
+    entry: Entry,
+    joins: bool,
+) -> Result<(), OutOfMemory>
     requires ordered { IsOrdered nat_cmp order.old }
+    requires ready_ordered { IsOrdered nat_cmp ready.old }
     requires newest { All (λ e. e.0 < number) order.old.entries }
+    requires newest_ready { All (λ e. e.0 < number) ready.old.entries }
+    ensures order { OnOk result (order.new.entries ≡ order.old.entries ++ (number, entry) ∷ []) }
+    ensures ready { OnOk result (ready.new.entries
+        ≡ ready.old.entries ++ (if joins then (number, entry) ∷ [] else [])) }
+    ensures order_err { OnErr result (order.new.entries ≡ order.old.entries) }
+    ensures ready_err { OnErr result (ready.new.entries ≡ ready.old.entries) }
+    ensures order_ordered { IsOrdered nat_cmp order.new }
+    ensures ready_ordered { IsOrdered nat_cmp ready.new }
+{
+    if !joins {
+        return append(order, number, entry);
+    }
+    append(ready, number, entry)?;
+    if append(order, number, entry).is_err() {
+        take_out(ready, number);
+        return Err(OutOfMemory);
+    }
+    Ok(())
+}
+
+/// Puts a path's newest notice in the place of the one it had. It is unserved if it is above its
+/// served number, and then ready if it joins the ready ones.
+pub fn renew(
+    order: &mut Order,
+    ready: &mut Order,
+    had: Numbers,
+    number: u64,
+    entry: Entry,
+    joins: bool,
+) -> Result<(), OutOfMemory>
+    requires ordered { IsOrdered nat_cmp order.old }
+    requires ready_ordered { IsOrdered nat_cmp ready.old }
+    requires newest { All (λ e. e.0 < number) order.old.entries }
+    requires newest_ready { All (λ e. e.0 < number) ready.old.entries }
     requires latest { 0 < number → had.latest < number }
-    ensures ok { OnOk result (order.new.entries ≡ renewed order.old.entries had (number, entry)) }
-    ensures ordered { IsOrdered nat_cmp order.new }
-    ensures err { OnErr result (order.new.entries ≡ order.old.entries) }
+    ensures order { OnOk result
+        (order.new.entries ≡ renewed order.old.entries had (number, entry) true) }
+    ensures ready { OnOk result
+        (ready.new.entries ≡ renewed ready.old.entries had (number, entry) joins) }
+    ensures order_err { OnErr result (order.new.entries ≡ order.old.entries) }
+    ensures ready_err { OnErr result (ready.new.entries ≡ ready.old.entries) }
+    ensures order_ordered { IsOrdered nat_cmp order.new }
+    ensures ready_ordered { IsOrdered nat_cmp ready.new }
 {
     if had.served < number {
-        append(order, number, entry)?;
+        enter(order, ready, number, entry, joins)?;
     }
     take_out(order, had.latest);
+    take_out(ready, had.latest);
     Ok(())
+}
+
+/// Takes out a path's latest notice, if it has one that was tried so often.
+pub fn give_up(ready: &mut Order, numbers: Numbers, retries: u32)
+    requires { IsOrdered nat_cmp ready.old }
+    ensures entries { ready.new.entries ≡ given_up ready.old.entries numbers retries }
+    ensures ordered { IsOrdered nat_cmp ready.new }
+{
+    if 0 < numbers.latest && retries <= numbers.attempts {
+        take_out(ready, numbers.latest);
+    }
 }
 
 /// Takes out a path's latest notice, if it is served by this number.

@@ -1,5 +1,6 @@
 ghost use Rattle.std.specs.Prelude.{◌≡◌, ◌++◌, [], ◌∷◌};
-ghost use Rattle.ci_change.specs.HandedIn.{notice_of};
+ghost use Rattle.ci_change.specs.Charges.{charges_with};
+ghost use Rattle.ci_change.specs.HandedIn.{no_history, notice_of};
 
 use crate::What;
 use crate::steps::Steps;
@@ -22,7 +23,7 @@ impl Model for Past {
 
 impl Past {
     pub fn new() -> Past
-        ensures { result ≡ record { notices = []; served = [] } }
+        ensures { result ≡ no_history }
     {
         Past {
             steps: Steps::start(),
@@ -43,6 +44,15 @@ impl Past {
     {
         Past {
             steps: self.steps.served(path, seq),
+        }
+    }
+
+    pub fn charged(&self, path: &PathText, seq: Seq) -> Past
+        ensures { let charges = charges_with self.now.notices self.now.charges path.now seq in
+            result ≡ record self.now { charges = charges } }
+    {
+        Past {
+            steps: self.steps.charged(path, seq),
         }
     }
 

@@ -1,16 +1,33 @@
-ghost use Rattle.std.specs.Prelude.{◌≡◌, ◌<◌, ℕ, List, Some, length, slice_get, IsTrue, IsOk, IfOk};
+ghost use Rattle.std.specs.Prelude.{◌≡◌, ◌<◌, ℕ, List, Some, length, nat_le, slice_get, IsTrue, IsOk, IfOk};
 ghost use Rattle.std.specs.Map.{keys_of};
+ghost use Rattle.ci_change.specs.Register.{charged};
 ghost use Rattle.ci_change.specs.Rows.{has_row, numbers_at, KeepsRows, Puts};
 
 use ci_base::{OutOfMemory, PathText};
 use indexmap::IndexMap;
 use std::alloc::Global;
 
-/// The number of a path's latest notice, and its served number. 0 stands for none.
+/// The number of a path's latest notice, its served number, and how often that notice was tried in
+/// vain. 0 stands for none. And whether a batch that is out has the path.
 #[derive(Clone, Copy, Debug)]
 pub struct Numbers {
     pub latest: u64,
     pub served: u64,
+    pub attempts: u32,
+    pub is_out: bool,
+}
+
+impl Numbers {
+    /// These numbers when the latest notice was tried once more, where it has this number.
+    pub fn charged(self, number: u64) -> Numbers
+        ensures { result ≡ charged self number }
+    {
+        if number == 0 || self.latest != number {
+            return self;
+        }
+        let attempts = self.attempts.saturating_add(1);
+        Numbers { attempts, ..self }
+    }
 }
 
 /// The rows of paths. None is ever taken out, so a path keeps its place.
@@ -29,6 +46,8 @@ pub fn place_of(rows: &mut Rows, alloc: Global, path: &PathText) -> Result<usize
             let none = Numbers {
                 latest: 0,
                 served: 0,
+                attempts: 0,
+                is_out: false,
             };
             let place = rows.len();
             rows.insert(path.copy(alloc)?, none)?;
@@ -65,6 +84,24 @@ pub fn numbers_of(rows: &Rows, place: usize) -> Numbers
     *rows.get_index(place).unwrap().1
 }
 
+/// Whether the latest notice of the path at a place was tried so often.
+pub fn is_tried(rows: &Rows, place: usize, retries: u32) -> bool
+    requires { place < length rows.now.entries }
+    ensures { (path : List ℕ) → slice_get (keys_of rows.now.entries) place ≡ Some path →
+        result ≡ nat_le retries (numbers_at rows.now.entries path).attempts }
+{
+    retries <= numbers_of(rows, place).attempts
+}
+
+/// Whether a batch that is out has the path at a place.
+pub fn is_out(rows: &Rows, place: usize) -> bool
+    requires { place < length rows.now.entries }
+    ensures { (path : List ℕ) → slice_get (keys_of rows.now.entries) place ≡ Some path →
+        result ≡ (numbers_at rows.now.entries path).is_out }
+{
+    numbers_of(rows, place).is_out
+}
+
 /// Gives the path at a place new numbers.
 pub fn put_numbers(rows: &mut Rows, place: usize, numbers: Numbers)
     requires { place < length rows.old.entries }
@@ -92,6 +129,16 @@ pub fn latest_of(rows: &Rows, path: &PathText) -> u64
 {
     match rows.get(path) {
         Some(numbers) => numbers.latest,
+        None => 0,
+    }
+}
+
+/// How often a path's latest notice was tried in vain, or 0.
+pub fn attempts_of(rows: &Rows, path: &PathText) -> u32
+    ensures { result ≡ (numbers_at rows.now.entries path.now).attempts }
+{
+    match rows.get(path) {
+        Some(numbers) => numbers.attempts,
         None => 0,
     }
 }

@@ -1,5 +1,6 @@
 ghost use Rattle.std.specs.Prelude.{◌≡◌, ◌+◌, ◌++◌, [], ◌∷◌};
-ghost use Rattle.ci_change.specs.HandedIn.{notice_of};
+ghost use Rattle.ci_change.specs.Charges.{charges_with};
+ghost use Rattle.ci_change.specs.HandedIn.{no_history, notice_of};
 
 use crate::What;
 use ci_base::{PathText, Seq};
@@ -20,6 +21,7 @@ enum Step {
     Start,
     Noted(Snapshot<Steps>, Snapshot<PathText>, Seq, What),
     Served(Snapshot<Steps>, Snapshot<PathText>, Seq),
+    Charged(Snapshot<Steps>, Snapshot<PathText>, Seq),
     Same(Snapshot<Steps>),
 }
 
@@ -41,7 +43,7 @@ impl Model for Steps {
 
 impl Steps {
     pub fn start() -> Steps
-        ensures { result ≡ record { history = record { notices = []; served = [] }; steps = 0 } }
+        ensures { result ≡ record { history = no_history; steps = 0 } }
     {
         Steps { step: Step::Start }
     }
@@ -61,6 +63,16 @@ impl Steps {
     {
         Steps {
             step: Step::Served(Snapshot::of(self), Snapshot::of(path), seq),
+        }
+    }
+
+    pub fn charged(&self, path: &PathText, seq: Seq) -> Steps
+        ensures { let past = self.now.history in
+            let charges = charges_with past.notices past.charges path.now seq in
+            result.history ≡ record past { charges = charges } }
+    {
+        Steps {
+            step: Step::Charged(Snapshot::of(self), Snapshot::of(path), seq),
         }
     }
 
