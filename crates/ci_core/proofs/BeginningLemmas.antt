@@ -5,22 +5,17 @@ use Rattle.ci_journal.specs.declared.event.Happened.{Happened}
 use Rattle.ci_journal.specs.declared.event.Happened.TheVariants.{Begun}
 use Rattle.ci_journal.specs.Folds.{numbered_paths}
 use Rattle.ci_journal.specs.Tells.{event}
-use Rattle.ci_core.specs.declared.core_fault.CoreFault.{CoreFault}
-use Rattle.ci_core.specs.declared.refusal.Refusal.{Refusal}
-use Rattle.ci_core.specs.declared.core_fault.CoreFault.TheVariants.{OutOfMemory}
-use Rattle.ci_core.specs.Batches.{Begins, HaltsBeginning, IsNextBatch, RefusesBeginning, Starved}
+use Rattle.ci_book.specs.declared.core_fault.CoreFault.{CoreFault}
+use Rattle.ci_book.specs.declared.refusal.Refusal.{Refusal}
+use Rattle.ci_book.specs.declared.core_fault.CoreFault.TheVariants.{OutOfMemory}
+use Rattle.ci_holdings.specs.Batches.{Begins, HaltsBeginning, IsNextBatch, RefusesBeginning, Starved}
 use Rattle.ci_core.specs.Catalog.{IsCatalog, IsCaused}
-use Rattle.ci_core.specs.Core.{Core}
+use Rattle.ci_holdings.specs.Core.{Core}
 use Rattle.ci_core.specs.Fixed.{KeepsFixed, PrintsAfter}
-use Rattle.ci_core.specs.Refusal.{tried_at}
-use Rattle.ci_core.specs.Refusals.{Halts}
-use Rattle.ci_core.specs.Steps.{Makes}
+use Rattle.ci_book.specs.Refusal.{tried_at}
+use Rattle.ci_holdings.specs.Refusals.{Halts}
+use Rattle.ci_holdings.specs.Steps.{Makes}
 use Rattle.ci_core.proofs.CatalogLemmas.{IsCatalog-step, IsMade, KeepsFixed-step, Refuses-step, caused-at, no_ends, noted-now, prints-stays}
-
--- why no batch was begun, as it is told
-pub HaltsBeginning-of : (old new : Core) (by max : ℕ) (batch : Batch) (fault told_fault : CoreFault) (tried : Option Happened) → told_fault ≡ fault → tried ≡ tried_at fault (Begun batch)
-    → IsNextBatch old.terms old.sheet.events max batch → Halts old new (event by (Begun batch)) fault → HaltsBeginning old new by max told_fault tried
-HaltsBeginning-of old new by max batch fault told_fault tried e f next halts = rw (e, f) (inr (batch, next, refl, halts))
 
 -- want of memory before it was known what would come
 caused-starved : (old made : Core) {refusal : Option Refusal} {by : ℕ} → Starved old made

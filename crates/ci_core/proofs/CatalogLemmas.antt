@@ -19,21 +19,20 @@ use Rattle.ci_journal.specs.Tells.{Tells, event, tells}
 use Rattle.ci_journal.specs.Terms.{Terms}
 use Rattle.ci_journal.proofs.FoldsLemmas.{new_notices-push}
 use Rattle.ci_journal.proofs.TellsLemmas.{tellings-append}
-use Rattle.ci_core.specs.declared.core_fault.CoreFault.{CoreFault}
-use Rattle.ci_core.specs.declared.core_fault.CoreFault.TheVariants.{TooManyDocuments, JournalFull, OutOfMemory, WriteFault, Ended}
-use Rattle.ci_core.specs.declared.refusal.Refusal.{Refusal}
+use Rattle.ci_book.specs.declared.core_fault.CoreFault.{CoreFault}
+use Rattle.ci_book.specs.declared.core_fault.CoreFault.TheVariants.{TooManyDocuments, JournalFull, OutOfMemory, WriteFault, Ended}
+use Rattle.ci_book.specs.declared.refusal.Refusal.{Refusal}
 use Rattle.ci_core.specs.Catalog.{CausedBy, IsCatalog, IsCaused, NumbersAfter, NumbersNoted, NumbersUnless}
-use Rattle.ci_core.specs.declared.question.Question.{Question}
-use Rattle.ci_core.specs.Changes.{Adds, Breaks, Stays}
-use Rattle.ci_core.specs.Core.{Core}
+use Rattle.ci_holdings.specs.declared.question.Question.{Question}
+use Rattle.ci_book.specs.Changes.{Adds, Breaks, Stays}
+use Rattle.ci_holdings.specs.Core.{Core}
 use Rattle.ci_core.specs.Fixed.{BreaksOff, Fixed, HasFixed, KeepsFixed, PrintsAfter, PrintsAll, PrintsAt}
-use Rattle.ci_core.specs.Refusal.{tried_at}
-use Rattle.ci_core.specs.Refusals.{Halts, IsCrowded, Refuses}
-use Rattle.ci_core.specs.Sheet.{Sheet}
-use Rattle.ci_core.specs.Opening.{OpensFirst, RefusesOpening}
-use Rattle.ci_core.specs.Steps.{Makes, Rests, Told, numbered_behind, step_in}
-use Rattle.ci_core.proofs.HaltsLemmas.{Stays-refl, Told-refl}
-use Rattle.ci_core.proofs.QueueLemmas.{same_first}
+use Rattle.ci_book.specs.Refusal.{tried_at}
+use Rattle.ci_holdings.specs.Refusals.{Halts, IsCrowded, Refuses}
+use Rattle.ci_book.specs.Sheet.{Sheet}
+use Rattle.ci_holdings.specs.Opening.{OpensFirst, RefusesOpening}
+use Rattle.ci_holdings.specs.Steps.{Makes, Told, numbered_behind, step_in}
+use Rattle.ci_holdings.proofs.QueueLemmas.{same_first}
 
 -- a step that adds an event was made or refused, and a refusal is kept
 pub record IsMade {T : Type 0} (before made : Core) (earlier : Option Refusal) (event : Event) (result : Result T CoreFault) (refusal : Option Refusal) : Type 0 where
@@ -306,9 +305,6 @@ module _ {T : Type 0} (old made : Core) (earlier : Option Refusal) (event : Even
           })
 
 -- ---- erasing and opening
-
-pub Rests-refl : (core : Core) → Rests core core
-Rests-refl core = record { stays = Stays-refl core.sheet; told = Told-refl core; numbered = refl }
 
 -- what opening gives is told of the catalogue without its refusal
 pub OpensFirst-kept : (before now : Core) (one other : Option Refusal) (by : ℕ) (result : Result (Option Question) CoreFault) → IfOk result (OpensFirst before now by)

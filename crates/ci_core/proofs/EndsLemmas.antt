@@ -12,13 +12,13 @@ use Rattle.ci_journal.specs.Folds.{numbered_paths, with_path}
 use Rattle.ci_journal.specs.Printed.{AreEnds, ends_batch, lines_of, printed}
 use Rattle.ci_journal.specs.Tells.{tells}
 use Rattle.ci_journal.proofs.FoldsLemmas.{new_notices-push}
-use Rattle.ci_core.specs.declared.core_fault.CoreFault.{CoreFault}
-use Rattle.ci_core.specs.declared.core_fault.CoreFault.TheVariants.{TooManyDocuments, JournalFull, OutOfMemory, WriteFault, Ended}
-use Rattle.ci_core.specs.declared.refusal.Refusal.{Refusal}
+use Rattle.ci_book.specs.declared.core_fault.CoreFault.{CoreFault}
+use Rattle.ci_book.specs.declared.core_fault.CoreFault.TheVariants.{TooManyDocuments, JournalFull, OutOfMemory, WriteFault, Ended}
+use Rattle.ci_book.specs.declared.refusal.Refusal.{Refusal}
 use Rattle.ci_core.specs.Catalog.{CausedBy, IsCatalog, IsCaused, NumbersAfter, NumbersNoted, NumbersUnless}
-use Rattle.ci_core.specs.Core.{Core}
+use Rattle.ci_holdings.specs.Core.{Core}
 use Rattle.ci_core.specs.Fixed.{BreaksOff, Fixed, KeepsFixed, PrintsAfter, PrintsAll, PrintsAt}
-use Rattle.ci_core.specs.Steps.{Ends}
+use Rattle.ci_holdings.specs.Steps.{Ends}
 use Rattle.ci_core.proofs.CatalogLemmas.{caused-at, numbered-now, printed-more, prints-adds}
 
 -- the end of a batch notes nothing and prints nothing

@@ -1,9 +1,9 @@
 -- What a refusal that stands says of further steps.
 use Rattle.std.proofs.Common.{◌≡◌, true, Option, Some, None, is_some, refl}
-use Rattle.ci_core.specs.declared.core_fault.CoreFault.TheVariants.{Ended}
-use Rattle.ci_core.specs.declared.refusal.Refusal.{Refusal}
-use Rattle.ci_core.specs.Core.{Core}
-use Rattle.ci_core.specs.Refusals.{IsOver}
+use Rattle.ci_book.specs.declared.core_fault.CoreFault.TheVariants.{Ended}
+use Rattle.ci_book.specs.declared.refusal.Refusal.{Refusal}
+use Rattle.ci_holdings.specs.Core.{Core}
+use Rattle.ci_holdings.specs.Refusals.{IsOver}
 
 -- a step after a refusal changes nothing
 pub IsOver-told : (core : Core) → is_some core.refusal ≡ true → IsOver core core Ended

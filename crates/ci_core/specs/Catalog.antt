@@ -8,10 +8,10 @@ use Rattle.ci_journal.specs.Folds.{is_numbered, numbered_paths}
 use Rattle.ci_journal.specs.Printed.{AreEnds}
 use Rattle.ci_journal.specs.Step.{May, step_of}
 use Rattle.ci_journal.specs.Tells.{event, tells}
-use Rattle.ci_core.specs.declared.core_fault.CoreFault.{CoreFault}
-use Rattle.ci_core.specs.declared.core_fault.CoreFault.TheVariants.{TooManyDocuments, JournalFull, OutOfMemory, WriteFault, Ended}
-use Rattle.ci_core.specs.declared.refusal.Refusal.{Refusal}
-use Rattle.ci_core.specs.Core.{Core}
+use Rattle.ci_book.specs.declared.core_fault.CoreFault.{CoreFault}
+use Rattle.ci_book.specs.declared.core_fault.CoreFault.TheVariants.{TooManyDocuments, JournalFull, OutOfMemory, WriteFault, Ended}
+use Rattle.ci_book.specs.declared.refusal.Refusal.{Refusal}
+use Rattle.ci_holdings.specs.Core.{Core}
 
 -- the paths that are numbered are those that were noted
 abbrev pub NumbersNoted : Core → Type 0

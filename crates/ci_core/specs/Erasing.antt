@@ -3,11 +3,11 @@ use Rattle.std.specs.Prelude.{◌⊎◌, ℕ, Bool, true, false, List}
 use Rattle.ci_base.specs.declared.numbers.Seq.{Seq}
 use Rattle.ci_journal.specs.declared.event.Happened.TheVariants.{Erased}
 use Rattle.ci_journal.specs.Step.{MayErase}
-use Rattle.ci_core.specs.declared.core_fault.CoreFault.{CoreFault}
+use Rattle.ci_book.specs.declared.core_fault.CoreFault.{CoreFault}
 use Rattle.ci_journal.specs.Tells.{event}
-use Rattle.ci_core.specs.Core.{Core}
-use Rattle.ci_core.specs.Refusals.{IsOver, IsRefused}
-use Rattle.ci_core.specs.Steps.{Makes, Rests}
+use Rattle.ci_holdings.specs.Core.{Core}
+use Rattle.ci_holdings.specs.Refusals.{IsOver, IsRefused}
+use Rattle.ci_holdings.specs.Steps.{Makes, Rests}
 
 -- a deletion of the path was pending, and the path is erased under its number; or none was, and
 -- nothing was done

@@ -5,11 +5,11 @@ use Rattle.std.specs.Io.KnownBytes.{Appends}
 use Rattle.ci_io.specs.Causes.{Rose}
 use Rattle.ci_journal.specs.Printed.{PrintsCut, printed}
 use Rattle.ci_journal.specs.Terms.{Terms}
-use Rattle.ci_core.specs.declared.core_fault.CoreFault.{CoreFault}
-use Rattle.ci_core.specs.declared.core_fault.CoreFault.TheVariants.{TooManyDocuments, JournalFull, OutOfMemory, WriteFault, Ended}
-use Rattle.ci_core.specs.declared.refusal.Refusal.{Refusal}
-use Rattle.ci_core.specs.Core.{Core}
-use Rattle.ci_core.specs.Sheet.{Sheet}
+use Rattle.ci_book.specs.declared.core_fault.CoreFault.{CoreFault}
+use Rattle.ci_book.specs.declared.core_fault.CoreFault.TheVariants.{TooManyDocuments, JournalFull, OutOfMemory, WriteFault, Ended}
+use Rattle.ci_book.specs.declared.refusal.Refusal.{Refusal}
+use Rattle.ci_holdings.specs.Core.{Core}
+use Rattle.ci_book.specs.Sheet.{Sheet}
 
 -- the settings, and of the sink its bytes, where it tells them, and its count of faults
 pub record Fixed : Type 0 where

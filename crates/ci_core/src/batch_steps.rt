@@ -1,15 +1,15 @@
-ghost use Rattle.std.specs.Prelude.{◌≤◌, All, IfOk, IfErr, OnOk};
+ghost use Rattle.std.specs.Prelude.{◌<◌, ◌≤◌, [], drop, length, take, All, IfOk, IfErr, OnOk};
 ghost use Rattle.ci_journal.specs.declared.event.Happened.{Happened};
-ghost use Rattle.ci_core.specs.Batches.{Begins, CanFinish, RefusesBeginning};
+ghost use Rattle.ci_holdings.specs.Batches.{Begins, CanFinish, RefusesBeginning};
 ghost use Rattle.ci_journal.specs.Tells.{event};
 ghost use Rattle.ci_core.specs.Fixed.{KeepsFixed};
-ghost use Rattle.ci_core.specs.Refusals.{IsStep};
-ghost use Rattle.ci_core.specs.Serving.{IsDone};
-ghost use Rattle.ci_core.specs.Steps.{Ends, IsUnrefused};
+ghost use Rattle.ci_holdings.specs.Refusals.{IsStep};
+ghost use Rattle.ci_holdings.specs.Serving.{IsDone};
+ghost use Rattle.ci_holdings.specs.Steps.{Charges, Ends, IsUnrefused, KeepsMap};
 ghost use Rattle.ci_journal.specs.Step.{MayEnd};
 
-use crate::refusal::keep;
-use crate::{Catalog, CoreFault, Tried};
+use crate::Catalog;
+use ci_book::{CoreFault, Tried, keep};
 use ci_change::Batch;
 use ci_io::Sink;
 use ci_journal::Outcomes;
@@ -51,11 +51,28 @@ impl<K: Sink + Drop> Catalog<K> {
         keep(&mut self.refusal, by, at, tried, made)
     }
 
+    /// The batch is out no more, since its daemon died within the document at the place `charged`,
+    /// from 0: an attempt was spent on that one alone. No document's entry changes. That takes no
+    /// memory and is never refused, also where a step was refused before.
+    pub fn batch_died(&mut self, by: u32, batch: &Batch, charged: u32)
+        requires may { MayEnd self.old.sheet.events by batch.now.number batch.now }
+        requires place { charged < length batch.now.docs }
+        ensures ends { Ends self.old self.new
+            (event by (Happened.BatchDied batch.now.number charged)) }
+        ensures entries { KeepsMap self.old self.new }
+        ensures charges { Charges self.old self.new (take 1 (drop charged batch.now.docs)) }
+        ensures fixed { KeepsFixed self.old self.new }
+    {
+        self.holdings.die(by, batch, charged);
+    }
+
     /// The batch is out no more, and none of its documents was tried. That takes no memory and is
     /// never refused, also where a step was refused before.
     pub fn return_batch(&mut self, by: u32, batch: &Batch)
         requires { MayEnd self.old.sheet.events by batch.now.number batch.now }
         ensures ends { Ends self.old self.new (event by (Happened.Returned batch.now.number)) }
+        ensures entries { KeepsMap self.old self.new }
+        ensures charges { Charges self.old self.new [] }
         ensures fixed { KeepsFixed self.old self.new }
     {
         self.holdings.give_back(by, batch);

@@ -1,19 +1,21 @@
-ghost use Rattle.std.specs.Prelude.{◌≡◌, ◌↔◌, ◌-◌, [], None, true, length, map, IfOk, IfErr, IfSome};
+ghost use Rattle.std.specs.Prelude.{◌≡◌, ◌↔◌, ◌<◌, ◌-◌, ◌^◌, [], None, true, length, map, IfOk, IfErr, IfSome};
 ghost use Rattle.std.specs.FinMap.{entries};
 ghost use Rattle.std.specs.Option.{option_copied, option_map};
-ghost use Rattle.ci_change.specs.Pending.{ListsByPath};
+ghost use Rattle.ci_change.specs.Pending.{ListsByPath, ListsPaths, paths_of};
 ghost use Rattle.ci_journal.specs.Folds.{requests_in, is_replied, reply_numbers};
-ghost use Rattle.ci_journal.specs.Pending.{pending};
+ghost use Rattle.ci_journal.specs.Pending.{free, pending, unfiltered};
 ghost use Rattle.ci_journal.specs.Served.{live_map};
 ghost use Rattle.ci_journal.specs.Step.{MayAnswer, MaySay, Run};
-ghost use Rattle.ci_core.specs.Book.{IsWithin};
+ghost use Rattle.ci_book.specs.Book.{IsWithin};
 ghost use Rattle.ci_core.specs.Catalog.{IsCaused, NumbersAfter};
-ghost use Rattle.ci_core.specs.Core.{terms_of};
+ghost use Rattle.ci_holdings.specs.Core.{terms_of};
 ghost use Rattle.ci_core.specs.Fixed.{HasFixed};
-ghost use Rattle.ci_core.specs.Kept.{StartsEmpty};
+ghost use Rattle.ci_holdings.specs.Kept.{StartsEmpty};
 
-use crate::{Closed, CoreFault, Holdings, NoCatalog, Refusal, Settings};
+use crate::{Closed, NoCatalog};
 use ci_base::OutOfMemory;
+use ci_book::{CoreFault, Refusal, Settings};
+use ci_holdings::Holdings;
 use ci_io::Sink;
 use ci_journal::{Journal, Notices, Paths};
 use ci_words::NoiseList;
@@ -29,7 +31,7 @@ pub struct Catalog<K: Sink + Drop> {
 }
 
 impl<K: Sink + Drop> Model for Catalog<K> {
-    ghost use Rattle.ci_core.specs.Core.{Core};
+    ghost use Rattle.ci_holdings.specs.Core.{Core};
     ghost use Rattle.ci_core.specs.Catalog.{IsCatalog};
 
     ghost Value = { Core };
@@ -48,7 +50,7 @@ impl<K: Sink + Drop> Catalog<K> {
         ensures fixed { IfOk result (HasFixed (record {
           limit = settings.now.journal;
           most = settings.now.documents;
-          terms = terms_of settings.now.noise;
+          terms = terms_of settings.now.noise settings.now.retries;
           written = K.written sink;
           faults = K.faults sink;
         })) }
@@ -68,6 +70,22 @@ impl<K: Sink + Drop> Catalog<K> {
         ensures { IfOk result (λ list. ListsByPath (pending self.now.terms self.now.sheet.events) list) }
     {
         self.holdings.pending()
+    }
+
+    /// How many documents are free: their changes are pending, and no batch that is out has them.
+    pub fn free(&self) -> u64
+        ensures { result ≡ length (free self.now.terms self.now.sheet.events) }
+    {
+        self.holdings.free()
+    }
+
+    /// The paths of the documents that are set aside as unfiltered, in byte order.
+    pub fn unfiltered(&self) -> Result<Paths, OutOfMemory>
+        ensures paths { let paths = paths_of (unfiltered self.now.terms self.now.sheet.events) in
+            IfOk result (λ list. ListsPaths paths list) }
+        ensures few { IfOk result (λ list. length list < 2 ^ 32) }
+    {
+        self.holdings.unfiltered()
     }
 
     /// The paths of the documents, in byte order.
@@ -144,7 +162,7 @@ impl<K: Sink + Drop> Catalog<K> {
     /// The words that are passed over.
     pub fn noise(&self) -> &NoiseList
         ensures noise { result.now ≡ self.now.terms.noise }
-        ensures terms { self.now.terms ≡ terms_of result.now }
+        ensures terms { self.now.terms ≡ terms_of result.now self.now.terms.retries }
     {
         self.holdings.noise()
     }

@@ -3,10 +3,10 @@ ghost use Rattle.ci_journal.specs.declared.event.Happened.{Happened};
 ghost use Rattle.ci_journal.specs.Daemon.{failures, most_failures};
 ghost use Rattle.ci_journal.specs.Tells.{event};
 ghost use Rattle.ci_core.specs.Fixed.{KeepsFixed};
-ghost use Rattle.ci_core.specs.Refusals.{IsStep};
+ghost use Rattle.ci_holdings.specs.Refusals.{IsStep};
 
-use crate::refusal::keep;
-use crate::{Catalog, CoreFault, Tried};
+use crate::Catalog;
+use ci_book::{CoreFault, Tried, keep};
 use ci_io::Sink;
 
 impl<K: Sink + Drop> Catalog<K> {

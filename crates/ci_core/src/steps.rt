@@ -3,17 +3,18 @@ ghost use Rattle.ci_journal.specs.Folds.{is_numbered, requests_in, next_notice, 
 ghost use Rattle.ci_journal.specs.declared.event.Happened.{Happened};
 ghost use Rattle.ci_journal.specs.Step.{MayPut, MayAnswer, MaySay};
 ghost use Rattle.ci_journal.specs.Tells.{event};
-ghost use Rattle.ci_core.specs.Changes.{noted};
+ghost use Rattle.ci_book.specs.Changes.{noted};
 ghost use Rattle.ci_core.specs.Erasing.{Erases, RefusesErasing};
 ghost use Rattle.ci_core.specs.Fixed.{KeepsFixed};
-ghost use Rattle.ci_core.specs.Opening.{OpensFirst, RefusesOpening};
-ghost use Rattle.ci_core.specs.Refusals.{IsOver, IsStep};
-ghost use Rattle.ci_core.specs.Steps.{IsUnrefused};
+ghost use Rattle.ci_holdings.specs.Opening.{OpensFirst, RefusesOpening};
+ghost use Rattle.ci_holdings.specs.Refusals.{IsOver, IsStep};
+ghost use Rattle.ci_holdings.specs.Steps.{IsUnrefused};
 
-use crate::refusal::keep;
-use crate::{Catalog, CoreFault, Question, Tried};
+use crate::Catalog;
 use ci_base::{PathText, Seq};
+use ci_book::{CoreFault, Tried, keep};
 use ci_chunk::Transcript;
+use ci_holdings::Question;
 use ci_io::Sink;
 use ci_journal::{Paths, Reply, Request, What};
 

@@ -4,7 +4,7 @@ use Rattle.std.proofs.lemmas.List.Elements.{Contains-append_left}
 use Rattle.ci_base.specs.declared.numbers.Seq.{Seq}
 use Rattle.ci_change.specs.declared.notice.Notice.{Notice}
 use Rattle.ci_change.specs.declared.notice.What.TheVariants.{Deleted}
-use Rattle.ci_change.specs.Pending.{pending_of}
+use Rattle.ci_change.specs.Pending.{unserved_of}
 use Rattle.ci_chunk.specs.declared.outcome.Outcome.{Outcome}
 use Rattle.ci_journal.specs.declared.event.Event.{Event}
 use Rattle.ci_journal.specs.declared.event.Happened.{Happened}
@@ -39,8 +39,8 @@ module _ (terms : Terms) (journal : List Event) (by : ℕ) where
   erase_behind : (path : List ℕ) (seq : Seq) → MayErase terms journal path seq → MayErase terms (journal ++ event by Shadowed ∷ []) path seq
   erase_behind path seq may =
       let deletion : Notice = record { path = path; seq = seq; what = Deleted } in
-      subst (λ (f : Filings). Contains (pending_of (notices terms (journal ++ event by Shadowed ∷ [])) (terms.beginning.numbers ++ numbers_of f.filed)) deletion) (sym same_filings)
-      (subst (λ ns. Contains (pending_of ns (served_numbers terms journal)) deletion) (sym same_notices) may)
+      subst (λ (f : Filings). Contains (unserved_of (notices terms (journal ++ event by Shadowed ∷ [])) (terms.beginning.numbers ++ numbers_of f.filed)) deletion) (sym same_filings)
+      (subst (λ ns. Contains (unserved_of ns (served_numbers terms journal)) deletion) (sym same_notices) may)
 
   finish_behind : (number : ℕ) (outcomes : List Outcome) → MayFinish journal by number outcomes → MayFinish (journal ++ event by Shadowed ∷ []) by number outcomes
   finish_behind number outcomes may =

@@ -1,8 +1,9 @@
 -- Which notices are pending, which documents are set aside as unfiltered, and which a batch may take.
-use Rattle.std.specs.Prelude.{◌==◌, ◌&&◌, ◌||◌, not, ℕ, Bool, true, false, List, bytes_eq, count_by, filter}
+use Rattle.std.specs.Prelude.{◌==◌, ◌&&◌, ◌||◌, not, ℕ, Bool, true, false, List, Option, Some, None, bytes_eq, filter, filter_map}
 use Rattle.std.specs.List.{list_any}
+use Rattle.ci_base.specs.declared.numbers.Seq.{Seq}
 use Rattle.ci_change.specs.declared.notice.Notice.{Notice}
-use Rattle.ci_change.specs.Pending.{pending_of, is_free, is_changed}
+use Rattle.ci_change.specs.Pending.{unserved_of, is_free, is_changed, is_spent}
 use Rattle.ci_journal.specs.declared.event.Event.{Event}
 use Rattle.ci_journal.specs.Tells.{Fate, Filing}
 use Rattle.ci_journal.specs.Tells.Fate.{Charged, Refused}
@@ -13,31 +14,35 @@ use Rattle.ci_journal.specs.Terms.{Terms}
 
 -- the latest notice of each path that is above the path's served number
 abbrev pub unserved_notices : Terms → List Event → List Notice
-unserved_notices terms journal = pending_of (notices terms journal) (served_numbers terms journal)
+unserved_notices terms journal = unserved_of (notices terms journal) (served_numbers terms journal)
+
+-- the document whose fate is a charge
+abbrev pub charge_under : List ℕ × Seq → Fate → Option (List ℕ × Seq)
+charge_under doc Charged = Some doc
+charge_under doc _ = None
+
+abbrev pub charge_of : Filing → Option (List ℕ × Seq)
+charge_of f = charge_under (f.path, f.seq) f.fate
+
+-- the charges among the fates
+abbrev pub charges_in : List Filing → List (List ℕ × Seq)
+charges_in filed = filter_map charge_of filed
 
 -- the fate is of this notice
 abbrev pub is_under : Notice → Filing → Bool
 is_under notice f = bytes_eq f.path notice.path && f.seq.0 == notice.seq.0
 
-abbrev pub is_charge : Fate → Bool
-is_charge Charged = true
-is_charge _ = false
-
 abbrev pub is_refusal : Fate → Bool
 is_refusal Refused = true
 is_refusal _ = false
 
--- how often a notice was tried and failed
-abbrev pub attempts : List Filing → Notice → ℕ
-attempts filed notice = count_by (λ f. is_under notice f && is_charge f.fate) filed
-
 -- its attempts are spent, or its filter refused it
-abbrev pub is_spent : ℕ → List Filing → Notice → Bool
-is_spent retries filed notice =
-    list_any (λ f. is_under notice f && is_refusal f.fate) filed || attempts filed notice == retries
+abbrev pub is_set_aside : ℕ → List Filing → Notice → Bool
+is_set_aside retries filed notice =
+    list_any (λ f. is_under notice f && is_refusal f.fate) filed || is_spent retries (charges_in filed) notice
 
 abbrev pub is_unfiltered : Terms → List Event → Notice → Bool
-is_unfiltered terms journal notice = is_spent terms.retries (fates journal) notice
+is_unfiltered terms journal notice = is_set_aside terms.retries (fates journal) notice
 
 abbrev pub unfiltered : Terms → List Event → List Notice
 unfiltered terms journal = filter (is_unfiltered terms journal) (unserved_notices terms journal)

@@ -2,7 +2,7 @@
 use Rattle.std.specs.Prelude.{◌+◌, ◌-◌, ◌==◌, ℕ, Bool, true, false, List, Some, None, fold, length, take, if◌then◌else◌}
 use Rattle.std.specs.FinMap as map_of_keys
 use Rattle.ci_change.specs.declared.notice.Notice.{Notice}
-use Rattle.ci_change.specs.Pending.{pending_of}
+use Rattle.ci_change.specs.Pending.{unserved_of}
 use Rattle.ci_journal.specs.declared.counts.Counts.{Counts}
 use Rattle.ci_journal.specs.declared.counts.Shape.{Shape as Form}
 use Rattle.ci_journal.specs.declared.counts.Shape.TheVariants as shape
@@ -89,4 +89,4 @@ durable terms journal = live_map terms (shadowed_front journal)
 
 -- the latest notice of each path that is above the number that outlives a stop, in ascending order
 abbrev pub later : Terms → List Event → List Notice
-later terms journal = pending_of (notices terms journal) (served_numbers terms (shadowed_front journal))
+later terms journal = unserved_of (notices terms journal) (served_numbers terms (shadowed_front journal))

@@ -4,7 +4,7 @@ use ci_base::{OutOfMemory, PathText};
 use std::alloc::Global;
 use std::marker::Model;
 
-/// A list of paths. Contracts see it as the list of their bytes.
+/// A list of paths, which is made from a `Vec` without taking memory. Contracts see it as the list of their bytes.
 #[derive(Debug, Drop)]
 pub struct Paths {
     paths: Vec<PathText>,
@@ -52,5 +52,13 @@ impl Paths {
             copied.add(path.copy(alloc)?)?;
         }
         Ok(copied)
+    }
+}
+
+impl From<Vec<PathText>> for Paths {
+    ghost from_gives = { λ v p. p ≡ v.items };
+
+    fn from(paths: Vec<PathText>) -> Paths {
+        Paths { paths }
     }
 }

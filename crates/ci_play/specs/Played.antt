@@ -1,8 +1,8 @@
 -- A list of steps, played one after the other.
 use Rattle.std.specs.Prelude.{◌≡◌, ◌⊎◌, List, [], ◌∷◌}
-use Rattle.ci_core.specs.declared.core_fault.CoreFault.{CoreFault}
-use Rattle.ci_core.specs.declared.core_fault.CoreFault.TheVariants.{OutOfMemory}
-use Rattle.ci_core.specs.Core.{Core}
+use Rattle.ci_book.specs.declared.core_fault.CoreFault.{CoreFault}
+use Rattle.ci_book.specs.declared.core_fault.CoreFault.TheVariants.{OutOfMemory}
+use Rattle.ci_holdings.specs.Core.{Core}
 use Rattle.ci_play.specs.declared.step.Step.{Step}
 use Rattle.ci_play.specs.declared.step.Step.TheVariants.{Answer}
 use Rattle.ci_play.specs.Steps.{Holds, Does, IsStopped}

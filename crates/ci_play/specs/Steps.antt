@@ -1,23 +1,23 @@
 -- The condition of a step, what the step does where it is made, and how it is refused.
-use Rattle.std.specs.Prelude.{◌≡◌, ◌≤◌, ◌+◌, ⊤, All, ℕ, Bool, Option, length}
+use Rattle.std.specs.Prelude.{◌≡◌, ◌<◌, ◌≤◌, ◌+◌, ⊤, All, ℕ, Bool, Option, length}
 use Rattle.ci_change.specs.declared.batch.Batch.{Batch}
 use Rattle.ci_change.specs.declared.notice.What.TheVariants.{Changed}
-use Rattle.ci_journal.specs.declared.event.Happened.TheVariants.{Asked, Put as Putting, Started as Starting, StartFailed as Failing, BatchDone, Returned, Answered, Said}
+use Rattle.ci_journal.specs.declared.event.Happened.TheVariants.{Asked, Put as Putting, Started as Starting, StartFailed as Failing, BatchDone, BatchDied as Dying, Returned, Answered, Said}
 use Rattle.ci_journal.specs.Folds.{next_notice, requests_in}
 use Rattle.ci_journal.specs.Step.{MayEnd, MayPut, MayAnswer, MaySay}
-use Rattle.ci_core.specs.declared.core_fault.CoreFault.{CoreFault}
-use Rattle.ci_core.specs.declared.question.Question.{Question}
-use Rattle.ci_core.specs.Batches.{Begins, CanFinish, RefusesBeginning}
+use Rattle.ci_book.specs.declared.core_fault.CoreFault.{CoreFault}
+use Rattle.ci_holdings.specs.declared.question.Question.{Question}
+use Rattle.ci_holdings.specs.Batches.{Begins, CanFinish, RefusesBeginning}
 use Rattle.ci_journal.specs.Tells.{event}
-use Rattle.ci_core.specs.Changes.{noted}
-use Rattle.ci_core.specs.Core.{Core}
+use Rattle.ci_book.specs.Changes.{noted}
+use Rattle.ci_holdings.specs.Core.{Core}
 use Rattle.ci_core.specs.Erasing.{Erases, RefusesErasing}
-use Rattle.ci_core.specs.Opening.{OpensFirst, RefusesOpening}
-use Rattle.ci_core.specs.Refusals.{Refuses}
-use Rattle.ci_core.specs.Serving.{IsDone}
-use Rattle.ci_core.specs.Steps.{Ends, Makes}
+use Rattle.ci_holdings.specs.Opening.{OpensFirst, RefusesOpening}
+use Rattle.ci_holdings.specs.Refusals.{Refuses}
+use Rattle.ci_holdings.specs.Serving.{IsDone}
+use Rattle.ci_holdings.specs.Steps.{Ends, Makes}
 use Rattle.ci_play.specs.declared.step.Step.{Step}
-use Rattle.ci_play.specs.declared.step.Step.TheVariants.{Ask, Note, Put, Erase, Started, StartFailed, BeginBatch, FinishBatch, ReturnBatch, OpenQuery, Answer, Say}
+use Rattle.ci_play.specs.declared.step.Step.TheVariants.{Ask, Note, Put, Erase, Started, StartFailed, BeginBatch, FinishBatch, BatchDied, ReturnBatch, OpenQuery, Answer, Say}
 
 -- the condition of a step
 abbrev pub Holds : Core → Step → Type 0
@@ -31,6 +31,8 @@ Holds core (StartFailed by) = ⊤
 Holds core (BeginBatch by max) = 1 ≤ max
 Holds core (FinishBatch by batch outcomes) =
     CanFinish core.sheet.events by batch outcomes × All IsDone outcomes
+Holds core (BatchDied by batch charged) =
+    MayEnd core.sheet.events by batch.number batch × (charged < length batch.docs)
 Holds core (ReturnBatch by batch) = MayEnd core.sheet.events by batch.number batch
 Holds core (OpenQuery by) = ⊤
 Holds core (Answer by id at paths) = MayAnswer core.terms core.sheet.events id at paths
@@ -51,12 +53,13 @@ Does old new (StartFailed by) = Makes old new (event by Failing)
 Does old new (BeginBatch by max) = (batch : Option Batch) × Begins old new by max batch
 Does old new (FinishBatch by batch outcomes) =
     Makes old new (event by (BatchDone batch.number outcomes))
+Does old new (BatchDied by batch charged) = Ends old new (event by (Dying batch.number charged))
 Does old new (ReturnBatch by batch) = Ends old new (event by (Returned batch.number))
 Does old new (OpenQuery by) = (question : Option Question) × OpensFirst old new by question
 Does old new (Answer by id at paths) = Makes old new (event by (Answered id at paths))
 Does old new (Say by id reply) = Makes old new (event by (Said id reply))
 
--- how it is refused; a batch that is given back never is
+-- how it is refused; the end of a batch that died or is given back never is
 abbrev pub IsStopped : Core → Core → Step → CoreFault → Type 0
 IsStopped old new (Ask by request) = Refuses old new (event by (Asked (next_request old) request))
 IsStopped old new (Note by path what) = Refuses old new (noted by path (next_notice old.terms old.sheet.events) what)
@@ -68,6 +71,7 @@ IsStopped old new (StartFailed by) = Refuses old new (event by Failing)
 IsStopped old new (BeginBatch by max) = RefusesBeginning old new by max
 IsStopped old new (FinishBatch by batch outcomes) =
     Refuses old new (event by (BatchDone batch.number outcomes))
+IsStopped old new (BatchDied by batch charged) = λ fault. ⊥
 IsStopped old new (ReturnBatch by batch) = λ fault. ⊥
 IsStopped old new (OpenQuery by) = RefusesOpening old new by
 IsStopped old new (Answer by id at paths) = Refuses old new (event by (Answered id at paths))

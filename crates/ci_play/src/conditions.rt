@@ -1,9 +1,9 @@
-ghost use Rattle.std.specs.Prelude.{◌≡◌, ◌↔◌, true, All};
+ghost use Rattle.std.specs.Prelude.{◌≡◌, ◌↔◌, ◌<◌, length, true, All};
 ghost use Rattle.ci_change.specs.declared.notice.What.{What};
 ghost use Rattle.ci_journal.specs.Step.{MayEnd, MayPut};
 ghost use Rattle.ci_journal.specs.Terms.{Terms, empty_beginning};
-ghost use Rattle.ci_core.specs.Batches.{CanFinish};
-ghost use Rattle.ci_core.specs.Serving.{IsDone};
+ghost use Rattle.ci_holdings.specs.Batches.{CanFinish};
+ghost use Rattle.ci_holdings.specs.Serving.{IsDone};
 
 use crate::batch_out::{is_begun_by, is_out};
 use crate::latest::is_latest_change;
@@ -46,6 +46,13 @@ fn is_done(outcome: &Outcome) -> bool
     ensures { (result ≡ true) ↔ IsDone outcome.now }
 {
     matches!(outcome, Outcome::Done(_))
+}
+
+pub fn can_die(events: &[Event], by: u32, batch: &Batch, charged: u32) -> bool
+    ensures { (result ≡ true) ↔ (MayEnd events.now by batch.now.number batch.now
+        × (charged < length batch.now.docs)) }
+{
+    can_return(events, by, batch) && (charged as usize) < batch.docs.items().len()
 }
 
 pub fn can_return(events: &[Event], by: u32, batch: &Batch) -> bool

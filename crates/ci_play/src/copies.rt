@@ -33,6 +33,11 @@ impl Step {
                 batch,
                 outcomes,
             } => copy_finish(alloc, *by, batch, outcomes),
+            Step::BatchDied { by, batch, charged } => Ok(Step::BatchDied {
+                by: *by,
+                batch: batch.copy(alloc)?,
+                charged: *charged,
+            }),
             Step::ReturnBatch { by, batch } => Ok(Step::ReturnBatch {
                 by: *by,
                 batch: batch.copy(alloc)?,

@@ -4,7 +4,7 @@ ghost use Rattle.ci_play.specs.Played.{Plays, Stops};
 ghost use Rattle.ci_play.specs.declared.step.Step.{Step};
 
 use crate::Step;
-use crate::conditions::{can_finish, can_put, can_return};
+use crate::conditions::{can_die, can_finish, can_put, can_return};
 use ci_base::{PathText, Seq};
 use ci_change::{Batch, What};
 use ci_chunk::Transcript;
@@ -37,6 +37,10 @@ pub fn play<K: Sink + Drop>(catalog: &mut Catalog<K>, step: Step) -> Result<(), 
             batch,
             outcomes,
         } => play_finish(catalog, by, batch, outcomes),
+        Step::BatchDied { by, batch, charged } => {
+            play_death(catalog, by, batch, charged);
+            Ok(())
+        }
         Step::ReturnBatch { by, batch } => {
             play_return(catalog, by, batch);
             Ok(())
@@ -156,6 +160,16 @@ fn play_finish<K: Sink + Drop>(
         return catalog.finish_batch(by, &batch, outcomes);
     }
     Ok(())
+}
+
+fn play_death<K: Sink + Drop>(catalog: &mut Catalog<K>, by: u32, batch: Batch, charged: u32)
+    ensures plays { Plays catalog.old catalog.new (Step.BatchDied by batch charged) }
+    ensures refusal { catalog.new.refusal ≡ catalog.old.refusal }
+    ensures fixed { KeepsFixed catalog.old catalog.new }
+{
+    if can_die(catalog.journal().events(), by, &batch, charged) {
+        catalog.batch_died(by, &batch, charged);
+    }
 }
 
 fn play_return<K: Sink + Drop>(catalog: &mut Catalog<K>, by: u32, batch: Batch)

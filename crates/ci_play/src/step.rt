@@ -40,6 +40,11 @@ pub enum Step {
         batch: Batch,
         outcomes: Outcomes,
     },
+    BatchDied {
+        by: u32,
+        batch: Batch,
+        charged: u32,
+    },
     ReturnBatch {
         by: u32,
         batch: Batch,

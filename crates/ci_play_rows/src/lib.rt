@@ -8,6 +8,8 @@ mod changes;
 #[cfg(test)]
 mod copies;
 #[cfg(test)]
+mod deaths;
+#[cfg(test)]
 mod returns;
 #[cfg(test)]
 mod standings;

@@ -2,7 +2,7 @@
 
 use crate::standings::{list, play_both, waits_only};
 use crate::starts::is_full;
-use crate::steps::{ask_spaces, begin, finish, give_back, note};
+use crate::steps::{begin, finish, full_with_a_batch, give_back, note};
 use ci_journal::What;
 use ci_play::Step;
 use std::alloc::Global;
@@ -25,16 +25,6 @@ fn a_batch_is_given_back_once(rt: HostRuntime) -> Result<(), Fail> {
     assert!(rt; waits_only(&listed.standing, "/p", 1));
     assert!(rt; listed.standing.paths.items().is_empty());
     Ok(())
-}
-
-// Of 65,536 bytes the request takes 65,380, the notice 74 and the batch 82: the journal is full.
-fn full_with_a_batch(alloc: Global) -> Result<Vec<Step>, Fail> {
-    let mut steps = Vec::new(alloc);
-    ask_spaces(&mut steps, 65_308)?;
-    note(&mut steps, "/p", What::Changed)?;
-    begin(&mut steps, 8)?;
-    note(&mut steps, "/q", What::Changed)?;
-    Ok(steps)
 }
 
 fn only_given_back(alloc: Global) -> Result<Vec<Step>, Fail> {

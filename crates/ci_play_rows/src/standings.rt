@@ -2,7 +2,7 @@
 
 ghost use Rattle.std.specs.Prelude.{◌≤◌};
 
-use ci_base::Seq;
+use ci_base::{Seq, Text};
 use ci_core::{Catalog, CoreFault, Question, Settings};
 use ci_io::SureMemorySink;
 use ci_journal::{Journal, Notice, What};
@@ -20,7 +20,9 @@ fn catalog(alloc: Global, documents: u32) -> Result<Catalog<SureMemorySink>, Fai
     let settings = Settings {
         journal: 65_536,
         documents,
+        retries: 4,
         noise: NoiseList::standard(alloc)?,
+        daemon: Text::of(alloc, "./cidaemon")?,
     };
     match Catalog::new(alloc, sink, &settings) {
         Ok(catalog) => Ok(catalog),

@@ -70,17 +70,17 @@ pub(crate) fn begin(steps: &mut Vec<Step>, max: usize) -> Result<(), Fail> {
     Ok(())
 }
 
-// The first batch, which is of this document under the first notice.
-fn first_batch(alloc: Global, text: &str) -> Result<Batch, Fail> {
+// The batch with a number, which is of this document under the first notice.
+fn batch(alloc: Global, number: u64, text: &str) -> Result<Batch, Fail> {
     let mut docs = Docs::new(alloc);
     docs.add((path(alloc, text)?, Seq(1)))?;
-    Ok(Batch { number: 1, docs })
+    Ok(Batch { number, docs })
 }
 
 /// It finishes the first batch, which is of this document.
 pub(crate) fn finish(steps: &mut Vec<Step>, text: &str) -> Result<(), Fail> {
     let alloc = *steps.allocator();
-    let batch = first_batch(alloc, text)?;
+    let batch = batch(alloc, 1, text)?;
     let mut outcomes = Outcomes::new(alloc);
     outcomes.add(Outcome::Done(Transcript::new(alloc)))?;
     steps.push(Step::FinishBatch {
@@ -91,9 +91,20 @@ pub(crate) fn finish(steps: &mut Vec<Step>, text: &str) -> Result<(), Fail> {
     Ok(())
 }
 
+/// The daemon dies within the one document of the batch with a number, at a place of it.
+pub(crate) fn die(steps: &mut Vec<Step>, number: u64, text: &str, at: u32) -> Result<(), Fail> {
+    let batch = batch(*steps.allocator(), number, text)?;
+    steps.push(Step::BatchDied {
+        by: 1,
+        batch,
+        charged: at,
+    })?;
+    Ok(())
+}
+
 /// It gives the first batch back, which is of this document.
 pub(crate) fn give_back(steps: &mut Vec<Step>, text: &str) -> Result<(), Fail> {
-    let batch = first_batch(*steps.allocator(), text)?;
+    let batch = batch(*steps.allocator(), 1, text)?;
     steps.push(Step::ReturnBatch { by: 1, batch })?;
     Ok(())
 }
@@ -148,4 +159,15 @@ pub(crate) fn say_ok(steps: &mut Vec<Step>) -> Result<(), Fail> {
         reply: Reply::Ok,
     })?;
     Ok(())
+}
+
+/// A batch of `/p` is out, and the notice behind it finds the journal full: of its 65,536 bytes the
+/// request takes 65,380, the notice of `/p` 74 and the batch 82.
+pub(crate) fn full_with_a_batch(alloc: Global) -> Result<Vec<Step>, Fail> {
+    let mut steps = Vec::new(alloc);
+    ask_spaces(&mut steps, 65_308)?;
+    note(&mut steps, "/p", What::Changed)?;
+    begin(&mut steps, 8)?;
+    note(&mut steps, "/q", What::Changed)?;
+    Ok(steps)
 }

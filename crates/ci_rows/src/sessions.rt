@@ -105,7 +105,9 @@ pub(crate) fn bounded(
     let settings = Settings {
         journal,
         documents,
+        retries: 4,
         noise,
+        daemon: Text::of(alloc, "./cidaemon")?,
     };
     let session = run_steps(alloc, &settings, source(alloc, given)?, sink(alloc)?);
     told(

@@ -12,10 +12,10 @@ use Rattle.ci_journal.specs.Step.Run.{Empty}
 use Rattle.ci_journal.specs.Tells.{last_of}
 use Rattle.ci_journal.specs.Terms.{Terms}
 use Rattle.ci_journal.proofs.LawLemmas.{AllAnswer-run}
-use Rattle.ci_core.specs.Core.{Core, terms_of}
+use Rattle.ci_holdings.specs.Core.{Core, terms_of}
 use Rattle.ci_core.specs.Fixed.{Fixed, HasFixed}
-use Rattle.ci_core.specs.Opening.{NoneWaits}
-use Rattle.ci_core.proofs.QueueLemmas.{IsQueue-empty, IsQueue-none}
+use Rattle.ci_holdings.specs.Opening.{NoneWaits}
+use Rattle.ci_holdings.proofs.QueueLemmas.{IsQueue-empty, IsQueue-none}
 use Rattle.ci_server.specs.declared.status.Status.{Status}
 use Rattle.ci_server.specs.declared.status.Status.TheVariants.{Done, Usage, ReadFault, WriteFault, JournalFull, TooManyDocuments, OutOfMemory, EndlessLine}
 use Rattle.ci_server.specs.Course.{Course, HasCause, IsComplete, IsServed, IsTold}
@@ -33,18 +33,18 @@ use Rattle.ci_server.proofs.SourceLemmas.{all_lines, done, ends_at_quit, left_at
 use Rattle.ci_server.proofs.StopLemmas.{StopsIn-starved}
 
 -- nothing was noted or served in a session that found nothing
-below-fresh : (noise : List (List ℕ)) → AreBelowNext (terms_of noise) []
-below-fresh noise = record { latest = λ path. omega arith; served = λ path. omega arith }
+below-fresh : (noise : List (List ℕ)) (retries : ℕ) → AreBelowNext (terms_of noise retries) []
+below-fresh noise retries = record { latest = λ path. omega arith; served = λ path. omega arith }
 
 -- a catalogue that was just made
-pub IsBetween-fresh : (core : Core) (noise : List (List ℕ)) → core.terms ≡ terms_of noise → core.sheet.events ≡ [] → core.numbered ≡ [] → core.refusal ≡ None → IsBetween core
-IsBetween-fresh core noise terms fresh none_numbered unrefused = record {
+pub IsBetween-fresh : (core : Core) (noise : List (List ℕ)) (retries : ℕ) → core.terms ≡ terms_of noise retries → core.sheet.events ≡ [] → core.numbered ≡ [] → core.refusal ≡ None → IsBetween core
+IsBetween-fresh core noise retries terms fresh none_numbered unrefused = record {
   sound = record {
     unrefused = unrefused;
     within = subst (λ es. journal_bytes es ≤ core.sheet.limit) (sym fresh) (omega arith);
-    numbered = none_numbered ∙ ap (numbered_paths (terms_of noise)) (sym fresh) ∙ ap (λ (t : Terms). numbered_paths t core.sheet.events) (sym terms);
+    numbered = none_numbered ∙ ap (numbered_paths (terms_of noise retries)) (sym fresh) ∙ ap (λ (t : Terms). numbered_paths t core.sheet.events) (sym terms);
     room = rw none_numbered (omega arith);
-    below = subst (λ (t : Terms). AreBelowNext t core.sheet.events) (sym terms) (subst (AreBelowNext (terms_of noise)) (sym fresh) (below-fresh noise));
+    below = subst (λ (t : Terms). AreBelowNext t core.sheet.events) (sym terms) (subst (AreBelowNext (terms_of noise retries)) (sym fresh) (below-fresh noise retries));
     plain = ap (λ (t : Terms). t.in_lists) terms;
   };
   replied = λ earlier some below. absurd (let count : length (requests_in core.sheet.events) ≡ 0 = ap (λ es. length (requests_in es)) fresh in omega (arith, count, some, below));
@@ -167,8 +167,8 @@ printed-idle (Some bytes) journal none = sym (append-nil bytes) ∙ ap (λ es. b
 quit-idle : (journal : List Event) → journal ≡ [] → EndsByQuit journal → ⊥
 quit-idle journal none quits = let never : None ≡ Some request.Quit = sym (ap (λ es. last_of (requests_in es)) none) ∙ quits in cc
 
-bounded-idle : (noise : List (List ℕ)) (most : ℕ) (journal : List Event) → journal ≡ [] → length (numbered_paths (terms_of noise) journal) ≤ most
-bounded-idle noise most journal none = subst (λ es. length (numbered_paths (terms_of noise) es) ≤ most) (sym none) (omega arith)
+bounded-idle : (noise : List (List ℕ)) (retries most : ℕ) (journal : List Event) → journal ≡ [] → length (numbered_paths (terms_of noise retries) journal) ≤ most
+bounded-idle noise retries most journal none = subst (λ es. length (numbered_paths (terms_of noise retries) es) ≤ most) (sym none) (omega arith)
 
 within-idle : (limit : ℕ) (journal : List Event) → journal ≡ [] → journal_bytes journal ≤ limit
 within-idle limit journal none = subst (λ es. journal_bytes es ≤ limit) (sym none) (omega arith)
@@ -184,8 +184,8 @@ cause-idle c starves = record {
 }
 
 -- for want of memory
-pub IsTold-idle : (c : Course) (noise : List (List ℕ)) → c.terms ≡ terms_of noise → c.journal ≡ [] → c.status ≡ OutOfMemory → c.written_after ≡ c.written → IsTold c
-IsTold-idle c noise terms none starves kept = record {
+pub IsTold-idle : (c : Course) (noise : List (List ℕ)) (retries : ℕ) → c.terms ≡ terms_of noise retries → c.journal ≡ [] → c.status ≡ OutOfMemory → c.written_after ≡ c.written → IsTold c
+IsTold-idle c noise retries terms none starves kept = record {
   served = served-from c (run-idle c.terms c.journal none) (turns-idle c.terms c.journal none) (λ _. ([], subst (λ es. Turns c.terms es []) (sym none) no_turns));
   asked = record {
     lines = lines-idle c.bytes c.journal none;
@@ -204,6 +204,6 @@ IsTold-idle c noise terms none starves kept = record {
   complete = complete c (cause-idle c starves);
   bounds = record {
     within = within-idle c.limit c.journal none;
-    bounded = subst (λ (t : Terms). length (numbered_paths t c.journal) ≤ c.most) (sym terms) (bounded-idle noise c.most c.journal none);
+    bounded = subst (λ (t : Terms). length (numbered_paths t c.journal) ≤ c.most) (sym terms) (bounded-idle noise retries c.most c.journal none);
   };
 }

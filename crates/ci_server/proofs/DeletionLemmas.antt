@@ -7,8 +7,8 @@ use Rattle.std.proofs.lemmas.Slice.Eq.{bytes_eq-Decides}
 use Rattle.ci_base.specs.declared.numbers.Seq.{Seq}
 use Rattle.ci_change.specs.declared.notice.Notice.{Notice}
 use Rattle.ci_change.specs.declared.notice.What.TheVariants.{Deleted}
-use Rattle.ci_change.specs.Pending.{latest_number, served_number, is_pending}
-use Rattle.ci_change.proofs.PendingLemmas.{latest_number-push}
+use Rattle.ci_change.specs.Pending.{latest_number, served_number, is_unserved}
+use Rattle.ci_change.proofs.UnservedLemmas.{latest_number-push}
 use Rattle.ci_keys.proofs.OneForm.{Contains-cons_cases, Contains-first, Contains-later, none_in_empty}
 use Rattle.ci_journal.specs.declared.event.Event.{Event}
 use Rattle.ci_journal.specs.declared.event.Happened.TheVariants.{Erased}
@@ -20,13 +20,13 @@ use Rattle.ci_journal.specs.Tells.{event}
 use Rattle.ci_journal.specs.Tells.Fate.{Gone}
 use Rattle.ci_journal.specs.Terms.{Terms}
 use Rattle.ci_journal.proofs.FoldsLemmas.{filings-push, notices-push}
-use Rattle.ci_core.specs.declared.core_fault.CoreFault.{CoreFault}
-use Rattle.ci_core.specs.Changes.{noted}
-use Rattle.ci_core.specs.Core.{Core}
+use Rattle.ci_book.specs.declared.core_fault.CoreFault.{CoreFault}
+use Rattle.ci_book.specs.Changes.{noted}
+use Rattle.ci_holdings.specs.Core.{Core}
 use Rattle.ci_core.specs.Erasing.{Erases, RefusesErasing}
 use Rattle.ci_core.specs.Fixed.{KeepsFixed}
-use Rattle.ci_core.specs.Refusals.{IsRefused, Refuses}
-use Rattle.ci_core.specs.Steps.{IsUnrefused, Makes}
+use Rattle.ci_holdings.specs.Refusals.{IsRefused, Refuses}
+use Rattle.ci_holdings.specs.Steps.{IsUnrefused, Makes}
 use Rattle.ci_server.specs.Served.{IsAt}
 use Rattle.ci_server.specs.Stops.{AreBelowNext, IsSound}
 use Rattle.ci_server.proofs.DocumentLemmas.{low-noted}
@@ -59,7 +59,7 @@ module _ (terms : Terms) (journal : List Event) (path : List ℕ) (seq : Seq) (n
   served-now : served_numbers terms (journal ++ noted 0 path seq.0 Deleted ∷ []) ≡ served_numbers terms journal
   served-now = ap (λ (filed : Filings). terms.beginning.numbers ++ numbers_of filed.filed) (filings-push journal (noted 0 path seq.0 Deleted))
 
-  pending-now : is_pending (notices terms (journal ++ noted 0 path seq.0 Deleted ∷ [])) (served_numbers terms (journal ++ noted 0 path seq.0 Deleted ∷ [])) (record { path = path; seq = seq; what = Deleted }) ≡ true
+  pending-now : is_unserved (notices terms (journal ++ noted 0 path seq.0 Deleted ∷ [])) (served_numbers terms (journal ++ noted 0 path seq.0 Deleted ∷ [])) (record { path = path; seq = seq; what = Deleted }) ≡ true
   pending-now =
       let own : (seq.0 == latest_number (notices terms (journal ++ noted 0 path seq.0 Deleted ∷ [])) path) ≡ true = rw latest-now (grind (arith, nat_tests)) in
       let above : nat_lt (served_number (served_numbers terms (journal ++ noted 0 path seq.0 Deleted ∷ [])) path) seq.0 ≡ true = rw served-now (grind (arith, nat_tests, next, below.served path)) in
@@ -69,7 +69,7 @@ module _ (terms : Terms) (journal : List Event) (path : List ℕ) (seq : Seq) (n
   pub MayErase-noted : MayErase terms (journal ++ noted 0 path seq.0 Deleted ∷ []) path seq
   MayErase-noted =
       let all = notices terms (journal ++ noted 0 path seq.0 Deleted ∷ []) in
-      let p = is_pending all (served_numbers terms (journal ++ noted 0 path seq.0 Deleted ∷ [])) in
+      let p = is_unserved all (served_numbers terms (journal ++ noted 0 path seq.0 Deleted ∷ [])) in
       let n : Notice = record { path = path; seq = seq; what = Deleted } in
       let is : filter p all ≡ filter p (notices terms journal) ++ n ∷ [] =
       ap (filter p) (notices-push terms journal (noted 0 path seq.0 Deleted)) ∙ filter-append p (notices terms journal) (n ∷ []) ∙ rw pending-now refl in
@@ -80,7 +80,7 @@ module _ (terms : Terms) (journal : List Event) (path : List ℕ) (seq : Seq) (n
   MayErase-only other may =
       let all = notices terms (journal ++ noted 0 path seq.0 Deleted ∷ []) in
       let served = served_numbers terms (journal ++ noted 0 path seq.0 Deleted ∷ []) in
-      let p = is_pending all served in
+      let p = is_unserved all served in
       let test : p (record { path = path; seq = other; what = Deleted }) ≡ true = passes p all (record { path = path; seq = other; what = Deleted }) may in
       let parts = and_parts (other.0 == latest_number all path) (nat_lt (served_number served path) other.0) test in
       let own : (other.0 == seq.0) ≡ true = subst (λ n. (other.0 == n) ≡ true) latest-now parts.0 in

@@ -14,13 +14,13 @@ use Rattle.ci_journal.specs.Tells.{event}
 use Rattle.ci_journal.specs.Tells.Fate.{Filtered}
 use Rattle.ci_journal.specs.Terms.{Terms}
 use Rattle.ci_journal.proofs.FoldsLemmas.{latest-noted}
-use Rattle.ci_core.specs.declared.core_fault.CoreFault.{CoreFault}
-use Rattle.ci_core.specs.declared.core_fault.CoreFault.TheVariants.{JournalFull, TooManyDocuments}
-use Rattle.ci_core.specs.Changes.{noted}
-use Rattle.ci_core.specs.Core.{Core}
+use Rattle.ci_book.specs.declared.core_fault.CoreFault.{CoreFault}
+use Rattle.ci_book.specs.declared.core_fault.CoreFault.TheVariants.{JournalFull, TooManyDocuments}
+use Rattle.ci_book.specs.Changes.{noted}
+use Rattle.ci_holdings.specs.Core.{Core}
 use Rattle.ci_core.specs.Fixed.{KeepsFixed}
-use Rattle.ci_core.specs.Refusals.{IsCrowded, IsStep}
-use Rattle.ci_core.specs.Steps.{IsUnrefused, Makes}
+use Rattle.ci_holdings.specs.Refusals.{IsCrowded, IsStep}
+use Rattle.ci_holdings.specs.Steps.{IsUnrefused, Makes}
 use Rattle.ci_server.specs.Right.{IsRight}
 use Rattle.ci_server.specs.Served.{IsAt, IsNotedHere, Replies, ServesSteps, StopsNoting, StopsReplying, StopsSteps}
 use Rattle.ci_server.specs.Stops.{IsSound}

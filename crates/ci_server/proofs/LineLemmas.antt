@@ -12,9 +12,9 @@ use Rattle.ci_io.specs.Reading.{Reading, BeginsTooLong, IsBeforeEnd, IsEndless, 
 use Rattle.ci_keys.proofs.OneForm.{Contains-cons_cases, Contains-first, Contains-later}
 use Rattle.ci_journal.specs.Folds.{requests_in}
 use Rattle.ci_journal.specs.Requests.{is_quit, request_of}
-use Rattle.ci_core.specs.declared.core_fault.CoreFault.{CoreFault}
-use Rattle.ci_core.specs.declared.core_fault.CoreFault.TheVariants as fault
-use Rattle.ci_core.specs.Core.{Core}
+use Rattle.ci_book.specs.declared.core_fault.CoreFault.{CoreFault}
+use Rattle.ci_book.specs.declared.core_fault.CoreFault.TheVariants as fault
+use Rattle.ci_holdings.specs.Core.{Core}
 use Rattle.ci_server.specs.declared.status.Status.{Status}
 use Rattle.ci_server.specs.declared.status.Status.TheVariants.{Done, Usage, ReadFault, WriteFault, JournalFull, TooManyDocuments, OutOfMemory, EndlessLine}
 use Rattle.ci_server.specs.Progress.{FitsLine, GoesOn, ServesLine, StopsAt}

@@ -13,7 +13,7 @@ use Rattle.ci_journal.specs.Queries.{IsAnswer}
 use Rattle.ci_journal.specs.Step.{step_of}
 use Rattle.ci_journal.specs.Tells.{event}
 use Rattle.ci_journal.specs.Terms.{Terms}
-use Rattle.ci_core.specs.Changes.{noted}
+use Rattle.ci_book.specs.Changes.{noted}
 use Rattle.ci_server.specs.Turns.{AreFirst, AreSteps, Front}
 use Rattle.ci_server.specs.Turns.Front.{Goes}
 use Rattle.ci_server.proofs.FrontLemmas.{front-one, whole-replied}

@@ -19,14 +19,14 @@ use Rattle.ci_journal.specs.Step.{MayAnswer}
 use Rattle.ci_journal.specs.Tells.{event}
 use Rattle.ci_journal.specs.Terms.{Terms}
 use Rattle.ci_journal.proofs.FoldsLemmas.{slice_get-push}
-use Rattle.ci_core.specs.declared.core_fault.CoreFault.{CoreFault}
-use Rattle.ci_core.specs.declared.question.Question.{Question}
-use Rattle.ci_core.specs.Core.{Core}
+use Rattle.ci_book.specs.declared.core_fault.CoreFault.{CoreFault}
+use Rattle.ci_holdings.specs.declared.question.Question.{Question}
+use Rattle.ci_holdings.specs.Core.{Core}
 use Rattle.ci_core.specs.Fixed.{KeepsFixed}
-use Rattle.ci_core.specs.Opening.{NoneWaits, Opens, RefusesOpening}
-use Rattle.ci_core.specs.Refusals.{IsRefused, Refuses}
-use Rattle.ci_core.specs.Steps.{IsUnrefused, Makes, Rests}
-use Rattle.ci_core.proofs.QueueLemmas.{request_at-push}
+use Rattle.ci_holdings.specs.Opening.{NoneWaits, Opens, RefusesOpening}
+use Rattle.ci_holdings.specs.Refusals.{IsRefused, Refuses}
+use Rattle.ci_holdings.specs.Steps.{IsUnrefused, Makes, Rests}
+use Rattle.ci_holdings.proofs.QueueLemmas.{request_at-push}
 use Rattle.ci_server.specs.Served.{IsAt, IsJustAsked}
 use Rattle.ci_server.specs.Stops.{AreBelowNext}
 use Rattle.ci_server.specs.Turns.{AreSteps}

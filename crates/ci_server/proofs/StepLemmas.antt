@@ -5,7 +5,7 @@ use Rattle.std.proofs.lemmas.Bool.{cases_lt}
 use Rattle.ci_base.specs.declared.numbers.Seq.{Seq}
 use Rattle.ci_change.specs.declared.notice.What.{What}
 use Rattle.ci_change.specs.Pending.{latest_number, served_number}
-use Rattle.ci_change.proofs.PendingLemmas.{latest_number-push, served_number-push}
+use Rattle.ci_change.proofs.UnservedLemmas.{latest_number-push, served_number-push}
 use Rattle.ci_journal.specs.declared.event.Event.{Event}
 use Rattle.ci_journal.specs.Filings.{Filings, fates, filings}
 use Rattle.ci_journal.specs.Folds.{is_numbered, new_notices, next_notice, notices, numbered_paths}
@@ -14,12 +14,12 @@ use Rattle.ci_journal.specs.Tells.{Filing, tells}
 use Rattle.ci_journal.specs.Tells.Filed.{One}
 use Rattle.ci_journal.specs.Terms.{Terms}
 use Rattle.ci_journal.proofs.FoldsLemmas.{file_where, filings-push, new_notices-push, notices-push, numbers_of-push}
-use Rattle.ci_core.specs.Changes.{noted}
-use Rattle.ci_core.specs.Core.{Core}
+use Rattle.ci_book.specs.Changes.{noted}
+use Rattle.ci_holdings.specs.Core.{Core}
 use Rattle.ci_core.specs.Fixed.{KeepsFixed}
-use Rattle.ci_core.specs.Steps.{IsUnrefused, Makes, numbered_behind, step_in}
+use Rattle.ci_holdings.specs.Steps.{IsUnrefused, Makes, numbered_behind, step_in}
 use Rattle.ci_core.proofs.CatalogLemmas.{numbered_paths-append}
-use Rattle.ci_core.proofs.HaltsLemmas.{alone, is_failed}
+use Rattle.ci_holdings.proofs.HaltsLemmas.{alone, is_failed}
 use Rattle.ci_server.specs.Stops.{AreBelowNext, IsSound, Remains}
 
 pub Remains-refl : (core : Core) → Remains core core

@@ -8,12 +8,12 @@ use Rattle.ci_journal.specs.Folds.{requests_in, request_at, is_opened, is_replie
 use Rattle.ci_journal.specs.Step.{MaySay}
 use Rattle.ci_journal.specs.Tells.{Tells}
 use Rattle.ci_journal.proofs.TellsLemmas.{tellings-append}
-use Rattle.ci_core.specs.declared.core_fault.CoreFault.{CoreFault}
-use Rattle.ci_core.specs.declared.core_fault.CoreFault.TheVariants.{OutOfMemory}
-use Rattle.ci_core.specs.Core.{Core}
+use Rattle.ci_book.specs.declared.core_fault.CoreFault.{CoreFault}
+use Rattle.ci_book.specs.declared.core_fault.CoreFault.TheVariants.{OutOfMemory}
+use Rattle.ci_holdings.specs.Core.{Core}
 use Rattle.ci_core.specs.Fixed.{KeepsFixed}
-use Rattle.ci_core.specs.Refusals.{Refuses}
-use Rattle.ci_core.proofs.HaltsLemmas.{is_failed}
+use Rattle.ci_holdings.specs.Refusals.{Refuses}
+use Rattle.ci_holdings.proofs.HaltsLemmas.{is_failed}
 use Rattle.ci_server.specs.Served.{FitsSteps, IsAt, ServesSteps, StopsSteps}
 use Rattle.ci_server.specs.Stops.{IsSound}
 use Rattle.ci_server.specs.Turns.{AreSteps, AreFirst}

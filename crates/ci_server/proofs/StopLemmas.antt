@@ -6,16 +6,16 @@ use Rattle.ci_journal.specs.declared.event.Happened.{Happened}
 use Rattle.ci_journal.specs.declared.event.Happened.TheVariants.{Asked, Noted, Put, Erased, Started, StartFailed, DaemonLost, Begun, BatchDone, BatchDied, Returned, Shadowed, MasterBegun, MasterStep, MasterEnded, Opened, Answered, Said}
 use Rattle.ci_journal.specs.Bytes.{journal_bytes}
 use Rattle.ci_journal.specs.Printed.{lines_of}
-use Rattle.ci_core.specs.declared.core_fault.CoreFault.{CoreFault}
-use Rattle.ci_core.specs.declared.core_fault.CoreFault.TheVariants.{TooManyDocuments, JournalFull, OutOfMemory, WriteFault, Ended}
-use Rattle.ci_core.specs.Changes.{Stays}
-use Rattle.ci_core.specs.Core.{Core}
+use Rattle.ci_book.specs.declared.core_fault.CoreFault.{CoreFault}
+use Rattle.ci_book.specs.declared.core_fault.CoreFault.TheVariants.{TooManyDocuments, JournalFull, OutOfMemory, WriteFault, Ended}
+use Rattle.ci_book.specs.Changes.{Stays}
+use Rattle.ci_holdings.specs.Core.{Core}
 use Rattle.ci_core.specs.Fixed.{KeepsFixed, PrintsAfter}
 use Rattle.ci_journal.specs.Tells.{tells}
-use Rattle.ci_core.specs.Refusals.{IsCrowded, IsOver, Refuses, Stops}
-use Rattle.ci_core.specs.Sheet.{Sheet}
-use Rattle.ci_core.specs.Steps.{step_in}
-use Rattle.ci_core.proofs.HaltsLemmas.{is_failed}
+use Rattle.ci_holdings.specs.Refusals.{IsCrowded, IsOver, Refuses, Stops}
+use Rattle.ci_book.specs.Sheet.{Sheet}
+use Rattle.ci_holdings.specs.Steps.{step_in}
+use Rattle.ci_holdings.proofs.HaltsLemmas.{is_failed}
 use Rattle.ci_server.specs.Stops.{Halts, IsNext, IsSound, Remains, StopsIn}
 use Rattle.ci_server.proofs.StepLemmas.{Remains-refl, Remains-trans, one_event}
 

@@ -16,14 +16,14 @@ use Rattle.ci_journal.specs.Queries.{Asks, Waits}
 use Rattle.ci_journal.specs.Tells.{event}
 use Rattle.ci_journal.specs.Terms.{Terms}
 use Rattle.ci_journal.proofs.FoldsLemmas.{is_replied-push, requests_in-push}
-use Rattle.ci_core.specs.declared.core_fault.CoreFault.{CoreFault}
-use Rattle.ci_core.specs.declared.core_fault.CoreFault.TheVariants.{OutOfMemory}
-use Rattle.ci_core.specs.Core.{Core}
+use Rattle.ci_book.specs.declared.core_fault.CoreFault.{CoreFault}
+use Rattle.ci_book.specs.declared.core_fault.CoreFault.TheVariants.{OutOfMemory}
+use Rattle.ci_holdings.specs.Core.{Core}
 use Rattle.ci_core.specs.Fixed.{KeepsFixed}
-use Rattle.ci_core.specs.Opening.{NoneWaits}
-use Rattle.ci_core.specs.Refusals.{Refuses}
-use Rattle.ci_core.specs.Steps.{IsUnrefused, Makes}
-use Rattle.ci_core.proofs.QueueLemmas.{Waits-before, request_at-new}
+use Rattle.ci_holdings.specs.Opening.{NoneWaits}
+use Rattle.ci_holdings.specs.Refusals.{Refuses}
+use Rattle.ci_holdings.specs.Steps.{IsUnrefused, Makes}
+use Rattle.ci_holdings.proofs.QueueLemmas.{Waits-before, request_at-new}
 use Rattle.ci_server.specs.Served.{FitsSteps, FitsTurn, IsBetween, IsJustAsked, ServesSteps, ServesTurn, StopsSteps, StopsTurn, WaitsAlone}
 use Rattle.ci_server.specs.Stops.{IsSound}
 use Rattle.ci_server.specs.Turns.{AreFirst, AreSteps, Front}

@@ -12,8 +12,8 @@ use Rattle.ci_journal.specs.Folds.{requests_in}
 use Rattle.ci_journal.specs.Requests.{is_quit}
 use Rattle.ci_journal.specs.Tells.{last_of}
 use Rattle.ci_journal.specs.Terms.{Terms}
-use Rattle.ci_core.specs.declared.core_fault.CoreFault.TheVariants as fault
-use Rattle.ci_core.specs.Core.{Core}
+use Rattle.ci_book.specs.declared.core_fault.CoreFault.TheVariants as fault
+use Rattle.ci_holdings.specs.Core.{Core}
 use Rattle.ci_server.specs.declared.status.Status.{Status}
 use Rattle.ci_server.specs.declared.status.Status.TheVariants.{Done, Usage, ReadFault, WriteFault, JournalFull, TooManyDocuments, OutOfMemory, EndlessLine}
 use Rattle.ci_server.specs.Requests.{IsOfLine, Reads, Feeds}

@@ -12,10 +12,10 @@ use Rattle.ci_journal.specs.Queries.{Waits}
 use Rattle.ci_journal.specs.Step.{MaySay}
 use Rattle.ci_journal.specs.Tells.{event}
 use Rattle.ci_journal.specs.Terms.{Terms}
-use Rattle.ci_core.specs.declared.core_fault.CoreFault.{CoreFault}
-use Rattle.ci_core.specs.Changes.{noted}
-use Rattle.ci_core.specs.Core.{Core}
-use Rattle.ci_core.specs.Opening.{NoneWaits}
+use Rattle.ci_book.specs.declared.core_fault.CoreFault.{CoreFault}
+use Rattle.ci_book.specs.Changes.{noted}
+use Rattle.ci_holdings.specs.Core.{Core}
+use Rattle.ci_holdings.specs.Opening.{NoneWaits}
 use Rattle.ci_server.specs.Right.{AreRepliedBefore}
 use Rattle.ci_server.specs.Stops.{IsSound, Remains, StopsIn}
 use Rattle.ci_server.specs.Turns.{AreSteps, AreFirst, IsTurn, IsTurnFront}

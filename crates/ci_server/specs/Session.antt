@@ -12,9 +12,6 @@ use Rattle.ci_journal.specs.Folds.{is_numbered, numbered_paths, requests_in}
 use Rattle.ci_journal.specs.Step.{May, step_of}
 use Rattle.ci_journal.specs.Tells.{last_of, tells}
 use Rattle.ci_journal.specs.Terms.{Terms}
-use Rattle.ci_core.specs.declared.settings.Settings.{Settings}
-use Rattle.ci_core.specs.Core.{terms_of}
-use Rattle.ci_words.specs.Noise.{standard_noise}
 use Rattle.ci_server.specs.declared.status.Status.{Status}
 use Rattle.ci_server.specs.declared.status.Status.TheVariants.{Done, Usage, ReadFault, WriteFault, JournalFull, TooManyDocuments, OutOfMemory, EndlessLine}
 use Rattle.ci_server.specs.Requests.{IsOfLine, requests, line_request, with_feed}
@@ -81,16 +78,6 @@ pub record Told : Type 0 where
   pub limit : ℕ
   pub most : ℕ
   pub bytes : Option (List ℕ)
-
--- as the settings say it, and with these bytes in the source
-abbrev pub told_of : Settings → Option (List ℕ) → Told
-told_of settings bytes =
-    record { terms = terms_of settings.noise; limit = settings.journal; most = settings.documents; bytes = bytes }
-
--- under the standard settings: the most that settings allow, and the standard noise words
-abbrev pub told_nothing : Option (List ℕ) → Told
-told_nothing bytes =
-    record { terms = terms_of standard_noise; limit = 268435456; most = 262144; bytes = bytes }
 
 -- the event notes a path that never was noted, and as many paths were noted as may be
 pub record IsOneTooMany (told : Told) (journal : List Event) (event : Event) : Type 0 where

@@ -8,13 +8,13 @@ use Rattle.ci_journal.specs.Printed.{lines_of}
 use Rattle.ci_journal.specs.Served.{served_numbers}
 use Rattle.ci_journal.specs.Step.{May}
 use Rattle.ci_journal.specs.Terms.{Terms}
-use Rattle.ci_core.specs.declared.core_fault.CoreFault.{CoreFault}
-use Rattle.ci_core.specs.declared.core_fault.CoreFault.TheVariants.{TooManyDocuments, JournalFull, OutOfMemory, WriteFault, Ended}
-use Rattle.ci_core.specs.Changes.{IsFull}
-use Rattle.ci_core.specs.Core.{Core}
+use Rattle.ci_book.specs.declared.core_fault.CoreFault.{CoreFault}
+use Rattle.ci_book.specs.declared.core_fault.CoreFault.TheVariants.{TooManyDocuments, JournalFull, OutOfMemory, WriteFault, Ended}
+use Rattle.ci_book.specs.Changes.{IsFull}
+use Rattle.ci_holdings.specs.Core.{Core}
 use Rattle.ci_core.specs.Fixed.{Fixed, HasFixed, KeepsFixed, PrintsAt}
-use Rattle.ci_core.specs.Refusals.{IsCrowded}
-use Rattle.ci_core.specs.Steps.{Told, step_in}
+use Rattle.ci_holdings.specs.Refusals.{IsCrowded}
+use Rattle.ci_holdings.specs.Steps.{Told, step_in}
 
 -- the next notice has a number above those of all notices, and above those under which paths were served
 pub record AreBelowNext (terms : Terms) (events : List Event) : Type 0 where

@@ -1,5 +1,5 @@
 ghost use Rattle.std.specs.Prelude.{◌≡◌, ◌≢◌, ◌↔◌, [], false, bytes_eq};
-ghost use Rattle.ci_core.specs.Core.{terms_of};
+ghost use Rattle.ci_holdings.specs.Core.{terms_of};
 ghost use Rattle.ci_words.specs.Noise.{standard_noise};
 ghost use Rattle.ci_server.specs.Course.{IsTold};
 ghost use Rattle.ci_server.specs.Words.{are_words};
@@ -24,9 +24,9 @@ pub fn run<S: Source + Drop, K: Sink + Drop>(
     ensures unwritten { result.status ≡ Status.Usage → result.sink ≡ sink }
 
     // Otherwise what `run_steps` promises holds under the standard settings: the most that settings
-    // allow, and the standard noise words.
+    // allow, four attempts at a document, and the standard noise words.
     ensures told { result.status ≢ Status.Usage → IsTold (record {
-      terms = terms_of standard_noise;
+      terms = terms_of standard_noise 4;
       limit = 268435456;
       most = 262144;
       bytes = S.left source;

@@ -1,6 +1,6 @@
 ghost use Rattle.std.specs.Prelude.{◌≡◌};
 ghost use Rattle.ci_journal.specs.Step.{Run};
-ghost use Rattle.ci_core.specs.Core.{terms_of};
+ghost use Rattle.ci_holdings.specs.Core.{terms_of};
 ghost use Rattle.ci_server.specs.Course.{IsTold};
 
 use crate::{Session, Status, read_lines};
@@ -21,7 +21,7 @@ pub fn run_steps<S: Source + Drop, K: Sink + Drop>(
     // What is promised of a session: how its journal came to be, what was asked, what was written,
     // why it ended, and what bounds it.
     ensures { IsTold (record {
-      terms = terms_of settings.now.noise;
+      terms = terms_of settings.now.noise settings.now.retries;
       limit = settings.now.journal;
       most = settings.now.documents;
       bytes = S.left source;

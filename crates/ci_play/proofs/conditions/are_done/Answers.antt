@@ -1,7 +1,7 @@
 use Rattle.std.proofs.Common.{All, refl, subst}
 use Rattle.std.proofs.lemmas.List.{take_all}
 use Rattle.std.proofs.lemmas.List.Elements.{All-more}
-use Rattle.ci_core.specs.Serving.{IsDone}
+use Rattle.ci_holdings.specs.Serving.{IsDone}
 use Rattle.ci_play.proofs.conditions.are_done.Goals as goal
 
 pub loop-outcome-preserved : goal.loop-outcome-preserved

@@ -1,7 +1,7 @@
 use Rattle.std.specs.Prelude.{◌≡◌}
 use Rattle.std.specs.Vec.Iter.{into_iter_items}
-use Rattle.ci_core.specs.declared.core_fault.CoreFault.{CoreFault}
-use Rattle.ci_core.specs.Core.{Core}
+use Rattle.ci_book.specs.declared.core_fault.CoreFault.{CoreFault}
+use Rattle.ci_holdings.specs.Core.{Core}
 use Rattle.ci_core.specs.Fixed.{KeepsFixed}
 use Rattle.ci_play.specs.Played.{Played, PlayedUntil}
 use Rattle.ci_play.proofs.steps.play_all.Given as goal

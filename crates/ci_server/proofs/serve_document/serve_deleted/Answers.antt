@@ -5,7 +5,7 @@ use Rattle.ci_journal.specs.declared.event.Happened.TheVariants.{Erased}
 use Rattle.ci_journal.specs.declared.request.Request.TheVariants as request
 use Rattle.ci_journal.specs.Folds.{next_notice}
 use Rattle.ci_journal.specs.Tells.{event}
-use Rattle.ci_core.specs.Changes.{noted}
+use Rattle.ci_book.specs.Changes.{noted}
 use Rattle.ci_server.proofs.DeletionLemmas.{Refuses-erasing, always_erases, erased-at}
 use Rattle.ci_server.proofs.DocumentLemmas.{IfErr-map, OnOk-map}
 use Rattle.ci_server.proofs.NotingLemmas.{first-deletion, first-erased, whole-deleted}

@@ -1,6 +1,6 @@
 use Rattle.std.proofs.Common.{◌∙◌, [], arith, false, ap, refl, sym}
 use Rattle.ci_io.specs.Reading.{Reading, ahead}
-use Rattle.ci_core.specs.Core.{terms_of}
+use Rattle.ci_holdings.specs.Core.{terms_of}
 use Rattle.ci_core.specs.Fixed.{Fixed}
 use Rattle.ci_server.specs.declared.status.Status.TheVariants.{OutOfMemory}
 use Rattle.ci_server.proofs.CourseLemmas.{IsBetween-fresh, Ends-unread, IsTold-ends, IsTold-handed, IsTold-idle, course}
@@ -8,14 +8,14 @@ use Rattle.ci_server.proofs.SourceLemmas.{ahead-fresh}
 use Rattle.ci_server.proofs.steps.run_steps.Goals as goal
 
 pub read_lines-status-requires-clause-between : goal.read_lines-status-requires-clause-between
-read_lines-status-requires-clause-between g c = IsBetween-fresh _ c.args.settings.now.noise c.in-Ok.ensures.fixed.terms c.in-Ok.ensures.events c.in-Ok.ensures.numbered c.in-Ok.ensures.unrefused
+read_lines-status-requires-clause-between g c = IsBetween-fresh _ c.args.settings.now.noise c.args.settings.now.retries c.in-Ok.ensures.fixed.terms c.in-Ok.ensures.events c.in-Ok.ensures.numbered c.in-Ok.ensures.unrefused
 
 pub returns-in-Err : goal.returns-in-Err
-returns-in-Err g c = IsTold-idle _ c.args.settings.now.noise refl c.idle.ensures.journal c.idle.ensures.status (ap (λ k. g.K.Sink.written k) (c.idle.ensures.sink ∙ c.in-Err.ensures.err))
+returns-in-Err g c = IsTold-idle _ c.args.settings.now.noise c.args.settings.now.retries refl c.idle.ensures.journal c.idle.ensures.status (ap (λ k. g.K.Sink.written k) (c.idle.ensures.sink ∙ c.in-Err.ensures.err))
 
 pub returns-in-Ok-new : goal.returns-in-Ok-new
 returns-in-Ok-new g c =
-    let fixed : Fixed = record { limit = c.args.settings.now.journal; most = c.args.settings.now.documents; terms = terms_of c.args.settings.now.noise; written = g.K.Sink.written c.args.sink; faults = g.K.Sink.faults c.args.sink } in
+    let fixed : Fixed = record { limit = c.args.settings.now.journal; most = c.args.settings.now.documents; terms = terms_of c.args.settings.now.noise c.args.settings.now.retries; written = g.K.Sink.written c.args.sink; faults = g.K.Sink.faults c.args.sink } in
     let e = c.end.ensures in
     let told = IsTold-ends c.in-Ok-new.reader c.in-Ok.catalog c.read_lines-status.new.reader c.read_lines-status.new.catalog fixed c.read_lines-status.result c.in-Ok.ensures.fixed c.read_lines-status.ensures (rw e.journal at e.run) c.into_source.ensures.held in
     IsTold-handed (course fixed c.in-Ok-new.reader c.read_lines-status.new.reader c.read_lines-status.new.catalog c.read_lines-status.result) _ _ _ _ _ _ _ _
@@ -25,11 +25,11 @@ returns-in-Ok-new g c =
 
 pub returns-in-Err-new : goal.returns-in-Err-new
 returns-in-Err-new g c =
-    let fixed : Fixed = record { limit = c.args.settings.now.journal; most = c.args.settings.now.documents; terms = terms_of c.args.settings.now.noise; written = g.K.Sink.written c.args.sink; faults = g.K.Sink.faults c.args.sink } in
+    let fixed : Fixed = record { limit = c.args.settings.now.journal; most = c.args.settings.now.documents; terms = terms_of c.args.settings.now.noise c.args.settings.now.retries; written = g.K.Sink.written c.args.sink; faults = g.K.Sink.faults c.args.sink } in
     let first : Reading = record { held = []; left = g.S.Source.left c.args.source; faults = g.S.Source.faults c.args.source; ended = false } in
     let e = c.end-in-Err-new.ensures in
     let made = c.in-Ok.ensures in
-    let ends = Ends-unread first c.in-Ok.catalog made.events (IsBetween-fresh c.in-Ok.catalog c.args.settings.now.noise made.fixed.terms made.events made.numbered made.unrefused) in
+    let ends = Ends-unread first c.in-Ok.catalog made.events (IsBetween-fresh c.in-Ok.catalog c.args.settings.now.noise c.args.settings.now.retries made.fixed.terms made.events made.numbered made.unrefused) in
     let told = IsTold-ends first c.in-Ok.catalog first c.in-Ok.catalog fixed OutOfMemory made.fixed ends (rw e.journal at e.run) (omega arith) in
     IsTold-handed (course fixed first first c.in-Ok.catalog OutOfMemory) _ _ _ _ _ _ _ _
     (sym (ahead-fresh _)) (ap (λ x. g.S.Source.left x) (e.source ∙ c.in-Err-new.ensures.err))

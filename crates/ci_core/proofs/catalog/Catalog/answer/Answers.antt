@@ -2,7 +2,7 @@ use Rattle.std.proofs.Common.{◌≡◌, ◌∙◌, length, ap, sym, subst}
 use Rattle.ci_journal.specs.declared.event.Happened.TheVariants.{Answered}
 use Rattle.ci_journal.specs.Step.{MayAnswer}
 use Rattle.ci_journal.specs.Tells.{event}
-use Rattle.ci_core.specs.Core.{Core}
+use Rattle.ci_holdings.specs.Core.{Core}
 use Rattle.ci_core.proofs.CatalogLemmas.{IsCatalog-step, IsMade, KeepsFixed-step, told-as}
 use Rattle.ci_core.proofs.catalog.Catalog.answer.Goals as goal
 

@@ -1,5 +1,5 @@
 use Rattle.std.proofs.Common.{◌≡◌, ◌∙◌, length, ap, sym}
-use Rattle.ci_core.specs.Core.{Core}
+use Rattle.ci_holdings.specs.Core.{Core}
 use Rattle.ci_core.proofs.BeginningLemmas.{IsCatalog-begun, IsCatalog-unbegun, RefusesBeginning-of}
 use Rattle.ci_core.proofs.catalog.Catalog.begin_batch.Goals as goal
 

@@ -3,8 +3,9 @@ use Rattle.ci_base.specs.declared.numbers.Seq.{Seq}
 use Rattle.ci_journal.specs.declared.event.Happened.TheVariants.{Erased}
 use Rattle.ci_journal.specs.Step.{MayErase}
 use Rattle.ci_journal.specs.Tells.{event}
-use Rattle.ci_core.specs.Core.{Core}
-use Rattle.ci_core.proofs.CatalogLemmas.{IsCatalog-step, IsMade, Rests-refl, told-as}
+use Rattle.ci_holdings.specs.Core.{Core}
+use Rattle.ci_core.proofs.CatalogLemmas.{IsCatalog-step, IsMade, told-as}
+use Rattle.ci_holdings.proofs.HaltsLemmas.{Rests-refl}
 use Rattle.ci_core.proofs.catalog.Catalog.erase.Goals as goal
 
 pub returns-in_default-clause-ok : goal.returns-in_default-clause-ok

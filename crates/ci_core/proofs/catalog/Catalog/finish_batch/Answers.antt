@@ -1,8 +1,8 @@
 use Rattle.std.proofs.Common.{◌≡◌, ◌∙◌, length, ap, sym, subst, refl}
 use Rattle.ci_journal.specs.declared.event.Happened.TheVariants.{BatchDone}
-use Rattle.ci_core.specs.Batches.{CanFinish}
+use Rattle.ci_holdings.specs.Batches.{CanFinish}
 use Rattle.ci_journal.specs.Tells.{event}
-use Rattle.ci_core.specs.Core.{Core}
+use Rattle.ci_holdings.specs.Core.{Core}
 use Rattle.ci_core.proofs.CatalogLemmas.{IsCatalog-step, IsMade, told-as}
 use Rattle.ci_core.proofs.catalog.Catalog.finish_batch.Goals as goal
 

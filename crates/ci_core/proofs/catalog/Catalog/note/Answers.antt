@@ -1,8 +1,8 @@
 use Rattle.std.proofs.Common.{◌≡◌, ◌∙◌, length, ap, sym, refl}
 use Rattle.ci_journal.specs.declared.event.Happened.TheVariants.{Noted}
 use Rattle.ci_journal.specs.Folds.{next_notice}
-use Rattle.ci_core.specs.Changes.{noted}
-use Rattle.ci_core.specs.Core.{Core}
+use Rattle.ci_book.specs.Changes.{noted}
+use Rattle.ci_holdings.specs.Core.{Core}
 use Rattle.ci_core.proofs.CatalogLemmas.{IsCatalog-step, IsMade, told-as}
 use Rattle.ci_core.proofs.catalog.Catalog.note.Goals as goal
 

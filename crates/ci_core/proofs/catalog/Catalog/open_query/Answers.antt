@@ -2,10 +2,11 @@ use Rattle.std.proofs.Common.{◌≡◌, ◌∙◌, length, ap, sym, subst}
 use Rattle.ci_journal.specs.declared.event.Happened.TheVariants.{Opened}
 use Rattle.ci_journal.specs.Queries.{IsFirstWaiting}
 use Rattle.ci_journal.specs.Tells.{event}
-use Rattle.ci_core.specs.Core.{Core}
-use Rattle.ci_core.specs.Opening.{NoneWaits}
-use Rattle.ci_core.specs.Refusals.{Halts}
-use Rattle.ci_core.proofs.CatalogLemmas.{IsCatalog-step, IsMade, KeepsFixed-step, OpensFirst-kept, Refuses-step, RefusesOpening-of, Rests-refl, halts-first, opening-made, told-as}
+use Rattle.ci_holdings.specs.Core.{Core}
+use Rattle.ci_holdings.specs.Opening.{NoneWaits}
+use Rattle.ci_holdings.specs.Refusals.{Halts}
+use Rattle.ci_core.proofs.CatalogLemmas.{IsCatalog-step, IsMade, KeepsFixed-step, OpensFirst-kept, Refuses-step, RefusesOpening-of, halts-first, opening-made, told-as}
+use Rattle.ci_holdings.proofs.HaltsLemmas.{Rests-refl}
 use Rattle.ci_core.proofs.catalog.Catalog.open_query.Goals as goal
 
 pub returns-in_default-clause-ok : goal.returns-in_default-clause-ok

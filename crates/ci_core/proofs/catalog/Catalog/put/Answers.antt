@@ -3,7 +3,7 @@ use Rattle.ci_change.specs.declared.notice.What.TheVariants.{Changed}
 use Rattle.ci_journal.specs.declared.event.Happened.TheVariants.{Put}
 use Rattle.ci_journal.specs.Step.{MayPut}
 use Rattle.ci_journal.specs.Tells.{event}
-use Rattle.ci_core.specs.Core.{Core}
+use Rattle.ci_holdings.specs.Core.{Core}
 use Rattle.ci_core.proofs.CatalogLemmas.{IsCatalog-step, IsMade, told-as}
 use Rattle.ci_core.proofs.catalog.Catalog.put.Goals as goal
 

@@ -1,13 +1,13 @@
 use Rattle.std.proofs.Common.{refl}
 use Rattle.ci_journal.specs.declared.event.Happened.TheVariants.{Returned}
 use Rattle.ci_journal.specs.Tells.{event}
-use Rattle.ci_core.specs.Steps.{Ends}
+use Rattle.ci_holdings.specs.Steps.{Ends}
 use Rattle.ci_core.proofs.EndsLemmas.{IsCatalog-ends, KeepsFixed-ends}
 use Rattle.ci_core.proofs.catalog.Catalog.return_batch.Goals as goal
 
 ends : (g : _) (c : goal.After-give_back g) → Ends (record c.self.inside.holdings { refusal = c.self.inside.refusal }) (record c.give_back.new.self { refusal = c.self.inside.refusal }) (event c.args.by (Returned c.args.batch.now.number))
 ends g c =
-    let made = c.give_back.ensures in
+    let made = c.give_back.ensures.ends in
     record { adds = made.adds; told = record { terms = made.told.terms; most = made.told.most }; numbered = made.numbered; refusal = refl }
 
 pub invariant_of-self : goal.invariant_of-self

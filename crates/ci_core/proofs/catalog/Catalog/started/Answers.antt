@@ -1,7 +1,7 @@
 use Rattle.std.proofs.Common.{◌≡◌, ◌∙◌, length, ap, sym}
 use Rattle.ci_journal.specs.declared.event.Happened.TheVariants.{Started}
 use Rattle.ci_journal.specs.Tells.{event}
-use Rattle.ci_core.specs.Core.{Core}
+use Rattle.ci_holdings.specs.Core.{Core}
 use Rattle.ci_core.proofs.CatalogLemmas.{IsCatalog-step, IsMade, told-as}
 use Rattle.ci_core.proofs.catalog.Catalog.started.Goals as goal
 

@@ -1,0 +1,10 @@
+pub mod Asking
+pub mod Batches
+pub mod Core
+pub mod Kept
+pub mod Open
+pub mod Opening
+pub mod Refusals
+pub mod Serving
+pub mod Steps
+pub mod Waiting
