@@ -5,6 +5,7 @@ ghost use Rattle.ci_io.specs.Causes.{HasCause};
 use crate::{Disk, Failed};
 use ci_base::Text;
 use std::fs::{File, Files, OpenOptions};
+use std::io::{Seek, SeekFrom};
 use std::os::unix::fs::FileExt;
 
 /// A file as a disk. It is opened at the first call, and made where it isn't there. Of what a file
@@ -50,8 +51,11 @@ fn opened<'a, R: Files<File = File>>(
     file.as_ref()
 }
 
+// It is asked by a seek. A stat would make the next write change the file's times, which the sync
+// behind that write would bring to the disk too.
 fn length_of(file: Option<&File>) -> Option<u64> {
-    Some(file?.metadata().ok()?.len())
+    let mut file = file?;
+    file.seek(SeekFrom::End(0)).ok()
 }
 
 fn read_from(file: Option<&File>, at: u64, out: &mut [u8]) -> Option<()> {
