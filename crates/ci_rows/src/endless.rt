@@ -2,6 +2,7 @@
 
 ghost use Rattle.std.specs.Prelude.{None};
 
+use crate::daemons::no_daemon;
 use crate::sessions::{sink, told};
 use ci_base::Text8;
 use ci_core::Settings;
@@ -40,7 +41,8 @@ fn session(alloc: Global, lines: &str) -> Result<String, Fail> {
         lines: Text8::of(alloc, lines.as_bytes())?,
         given: false,
     };
-    let session = run_steps(alloc, &Settings::standard(alloc)?, source, sink(alloc)?);
+    let settings = Settings::standard(alloc)?;
+    let session = run_steps(alloc, &settings, source, sink(alloc)?, no_daemon(alloc));
     told(
         alloc,
         session.status,

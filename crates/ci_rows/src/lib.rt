@@ -4,11 +4,15 @@
 #[cfg(test)]
 mod catalogue;
 #[cfg(test)]
+mod daemons;
+#[cfg(test)]
 mod dialect;
 #[cfg(test)]
 mod endless;
 #[cfg(test)]
 mod ends;
+#[cfg(test)]
+mod filtering;
 #[cfg(test)]
 mod large;
 #[cfg(test)]

@@ -27,8 +27,8 @@ hello||put /d//a x|query|put /d/a| => Done 10: 1 bad|2 bad|3 bad|4 bad|5 bad|
 changed /|changed /a//b|changed /a/../b| => Done 6: 1 bad|2 bad|3 bad|
 wait |quit now|pending x| => Done 6: 1 bad|2 bad|3 bad|
 put /a fo?x|?|changed /?|query ?|wait| => Done 10: 1 bad|2 bad|3 bad|4 bad|5 done|
-filter|shadow|master|step|scan| => Done 10: 1 bad|2 bad|3 bad|4 bad|5 bad|
-unfiltered|status|load 7 3| => Done 6: 1 bad|2 bad|3 bad|";
+shadow|master|step|scan| => Done 8: 1 bad|2 bad|3 bad|4 bad|
+status|load 7 3| => Done 4: 1 bad|2 bad|";
     assert_eq!(rt; unmet::<Sessions>(rt.alloc(), ROWS)?.as_str(), "");
     Ok(())
 }

@@ -3,6 +3,7 @@
 
 ghost use Rattle.std.specs.Prelude.{◌≤◌};
 
+use crate::daemons::no_daemon;
 use crate::pieces::Pieces;
 use crate::table::Table;
 use ci_base::{Text, Text8};
@@ -46,7 +47,8 @@ fn lines(alloc: Global, given: &str) -> Result<Text8, Fail> {
     Ok(Text8::from(bytes))
 }
 
-fn command(alloc: Global, words: &[&str]) -> Result<Vec<Text>, Fail> {
+/// The words of a command line.
+pub(crate) fn command(alloc: Global, words: &[&str]) -> Result<Vec<Text>, Fail> {
     let mut command = Vec::new(alloc);
     for word in words {
         command.push(Text::of(alloc, word)?)?;
@@ -54,7 +56,8 @@ fn command(alloc: Global, words: &[&str]) -> Result<Vec<Text>, Fail> {
     Ok(command)
 }
 
-fn source(alloc: Global, given: &str) -> Result<SureMemorySource, Fail> {
+/// A source of lines.
+pub(crate) fn source(alloc: Global, given: &str) -> Result<SureMemorySource, Fail> {
     Ok(SureMemorySource::new(alloc, lines(alloc, given)?))
 }
 
@@ -80,7 +83,13 @@ pub(crate) fn session(alloc: Global, given: &str) -> Result<String, Fail> {
 /// The same under another command line.
 pub(crate) fn commanded(alloc: Global, words: &[&str], given: &str) -> Result<String, Fail> {
     let words = command(alloc, words)?;
-    let session = run(alloc, &words, source(alloc, given)?, sink(alloc)?);
+    let session = run(
+        alloc,
+        &words,
+        source(alloc, given)?,
+        sink(alloc)?,
+        no_daemon(alloc),
+    );
     told(
         alloc,
         session.status,
@@ -109,7 +118,13 @@ pub(crate) fn bounded(
         noise,
         daemon: Text::of(alloc, "./cidaemon")?,
     };
-    let session = run_steps(alloc, &settings, source(alloc, given)?, sink(alloc)?);
+    let session = run_steps(
+        alloc,
+        &settings,
+        source(alloc, given)?,
+        sink(alloc)?,
+        no_daemon(alloc),
+    );
     told(
         alloc,
         session.status,
@@ -123,7 +138,7 @@ pub(crate) fn cut_off(alloc: Global, fails: u64, given: &str) -> Result<String, 
     let fails = vec![in alloc; fails]?;
     let sink = MemorySink::new(alloc, 3, fails, 4096)?;
     let words = command(alloc, &["cisvc", "steps", "/"])?;
-    let session = run(alloc, &words, source(alloc, given)?, sink);
+    let session = run(alloc, &words, source(alloc, given)?, sink, no_daemon(alloc));
     told(
         alloc,
         session.status,
@@ -137,7 +152,7 @@ pub(crate) fn unread(alloc: Global, fails: u64, given: &str) -> Result<String, F
     let fails = vec![in alloc; fails]?;
     let source = MemorySource::new(alloc, lines(alloc, given)?, fails);
     let words = command(alloc, &["cisvc", "steps", "/"])?;
-    let session = run(alloc, &words, source, sink(alloc)?);
+    let session = run(alloc, &words, source, sink(alloc)?, no_daemon(alloc));
     told(
         alloc,
         session.status,
@@ -149,7 +164,8 @@ pub(crate) fn unread(alloc: Global, fails: u64, given: &str) -> Result<String, F
 /// A session whose source gives at most so many bytes a call, and how many it gave.
 pub(crate) fn in_pieces(alloc: Global, most: usize, given: &str) -> Result<(String, usize), Fail> {
     let source = Pieces::of(alloc, given, most)?;
-    let session = run_steps(alloc, &Settings::standard(alloc)?, source, sink(alloc)?);
+    let settings = Settings::standard(alloc)?;
+    let session = run_steps(alloc, &settings, source, sink(alloc)?, no_daemon(alloc));
     let given = session.source.given;
     let text = told(
         alloc,
@@ -163,11 +179,18 @@ pub(crate) fn in_pieces(alloc: Global, most: usize, given: &str) -> Result<(Stri
 /// The journal of a session: a letter for each event's kind.
 pub(crate) fn kinds(alloc: Global, given: &str) -> Result<String, Fail> {
     let words = command(alloc, &["cisvc", "steps", "/"])?;
-    let session = run(alloc, &words, source(alloc, given)?, sink(alloc)?);
+    let session = run(
+        alloc,
+        &words,
+        source(alloc, given)?,
+        sink(alloc)?,
+        no_daemon(alloc),
+    );
     letters(alloc, session.journal.events())
 }
 
-fn letters(alloc: Global, events: &[Event]) -> Result<String, Fail> {
+/// A letter for each event's kind.
+pub(crate) fn letters(alloc: Global, events: &[Event]) -> Result<String, Fail> {
     let mut letters = String::new(alloc);
     for event in events {
         letters.push(letter(&event.what))?;
@@ -181,6 +204,13 @@ fn letter(what: &Happened) -> char {
         Happened::Noted { .. } => 'n',
         Happened::Put { .. } => 'p',
         Happened::Erased { .. } => 'e',
+        Happened::Started => 't',
+        Happened::StartFailed => 'f',
+        Happened::DaemonLost => 'l',
+        Happened::Begun { .. } => 'b',
+        Happened::BatchDone { .. } => 'd',
+        Happened::BatchDied { .. } => 'x',
+        Happened::Returned { .. } => 'r',
         Happened::Opened { .. } => 'o',
         Happened::Answered { .. } => 'a',
         Happened::Said { .. } => 's',

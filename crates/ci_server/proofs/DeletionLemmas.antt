@@ -27,10 +27,9 @@ use Rattle.ci_core.specs.Erasing.{Erases, RefusesErasing}
 use Rattle.ci_core.specs.Fixed.{KeepsFixed}
 use Rattle.ci_holdings.specs.Refusals.{IsRefused, Refuses}
 use Rattle.ci_holdings.specs.Steps.{IsUnrefused, Makes}
-use Rattle.ci_server.specs.Served.{IsAt}
-use Rattle.ci_server.specs.Stops.{AreBelowNext, IsSound}
+use Rattle.ci_worker.specs.Stops.{AreBelowNext, IsAt, IsSound}
 use Rattle.ci_server.proofs.DocumentLemmas.{low-noted}
-use Rattle.ci_server.proofs.StepLemmas.{step-filed}
+use Rattle.ci_worker.proofs.StepLemmas.{step-filed}
 use Rattle.ci_server.proofs.StepsLemmas.{IsAt-step}
 
 passes : {X : Type 0} (p : X → Bool) (xs : List X) (x : X) → Contains (filter p xs) x → p x ≡ true

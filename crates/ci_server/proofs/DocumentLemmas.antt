@@ -22,13 +22,14 @@ use Rattle.ci_core.specs.Fixed.{KeepsFixed}
 use Rattle.ci_holdings.specs.Refusals.{IsCrowded, IsStep}
 use Rattle.ci_holdings.specs.Steps.{IsUnrefused, Makes}
 use Rattle.ci_server.specs.Right.{IsRight}
-use Rattle.ci_server.specs.Served.{IsAt, IsNotedHere, Replies, ServesSteps, StopsNoting, StopsReplying, StopsSteps}
-use Rattle.ci_server.specs.Stops.{IsSound}
+use Rattle.ci_server.specs.Served.{IsNotedHere, Replies, ServesSteps, StopsNoting, StopsReplying, StopsSteps}
+use Rattle.ci_worker.specs.Stops.{IsAt, IsSound}
 use Rattle.ci_server.specs.Turns.{AreSteps}
 use Rattle.ci_server.specs.Turns.Front.{Begins}
 use Rattle.ci_server.proofs.FrontLemmas.{whole-alone}
-use Rattle.ci_server.proofs.StepLemmas.{next-noted, step-filed, step-noted, step-quiet}
-use Rattle.ci_server.proofs.StepsLemmas.{IsAt-none, IsAt-step, steps-serve, steps-stop}
+use Rattle.ci_worker.proofs.BatchLemmas.{IfErr-map, OnOk-map}
+use Rattle.ci_worker.proofs.StepLemmas.{IsAt-none, next-noted, step-filed, step-noted, step-quiet}
+use Rattle.ci_server.proofs.StepsLemmas.{IsAt-step, steps-serve, steps-stop}
 
 -- the path was noted first
 pub noted-at : (old a : Core) (path : List ℕ) (seq : Seq) (what : What) → IsSound old → seq.0 ≡ next_notice old.terms old.sheet.events → Makes old a (noted 0 path seq.0 what)
@@ -81,16 +82,6 @@ module _ {T : Type 0} (now new : Core) (id : ℕ) (reply : Reply) (keeps : Keeps
   unreplied (Ok answer) step = tt
   unreplied (Err fault) step = λ old request steps at first made.
       steps-stop old id request now new steps (event 0 (Said id reply)) fault refl at first (inr made) step.refused keeps (inl refl)
-
--- where a reply was made or refused, what follows of it
-module _ {T : Type 0} where
-  pub OnOk-map : {P Q : Type 0} (result : Result T CoreFault) → (P → Q) → OnOk result P → OnOk result Q
-  OnOk-map (Ok answer) follows holds = follows holds
-  OnOk-map (Err fault) follows holds = tt
-
-  pub IfErr-map : {P Q : CoreFault → Type 0} (result : Result T CoreFault) → ((fault : CoreFault) → P fault → Q fault) → IfErr result P → IfErr result Q
-  IfErr-map (Ok answer) follows holds = tt
-  IfErr-map (Err fault) follows holds = follows fault holds
 
 -- a request that has no steps, of which a reply is the whole turn
 module _ (now new : Core) (id : ℕ) (request : Request) (reply : Reply) (sound : IsSound now) (right : IsRight now.terms now.sheet.events [] id request reply) where

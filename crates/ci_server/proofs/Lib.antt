@@ -1,6 +1,6 @@
-pub mod StepLemmas
-pub mod StopLemmas
 pub mod FrontLemmas
+pub mod BesideLemmas
+pub mod FilterLemmas
 pub mod NotingLemmas
 pub mod StepsLemmas
 pub mod DeletionLemmas

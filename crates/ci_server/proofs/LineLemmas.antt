@@ -21,9 +21,9 @@ use Rattle.ci_server.specs.Progress.{FitsLine, GoesOn, ServesLine, StopsAt}
 use Rattle.ci_server.specs.Requests.{Reads, Feeds, before_endless, is_end, line_request, requests_behind, through_quit, with_feed}
 use Rattle.ci_server.specs.Served.{FitsTurn, ServesTurn, StopsTurn}
 use Rattle.ci_server.specs.Status.{refusal_told, status_of_read}
-use Rattle.ci_server.specs.Stops.{IsSound, StopsIn}
-use Rattle.ci_server.proofs.StepLemmas.{Remains-refl}
-use Rattle.ci_server.proofs.StopLemmas.{StopsIn-map, StopsIn-starved}
+use Rattle.ci_worker.specs.Stops.{IsSound, StopsIn}
+use Rattle.ci_worker.proofs.StepLemmas.{Remains-refl}
+use Rattle.ci_worker.proofs.StopLemmas.{StopsIn-map, StopsIn-starved}
 
 -- the first line's request is the first request
 Reads-line : (old new : Option (List ℕ)) (given : Line) → TakesLine old new given → Reads old new (request_of given ∷ []) (is_quit (request_of given))

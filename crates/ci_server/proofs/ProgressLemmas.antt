@@ -23,12 +23,12 @@ use Rattle.ci_server.specs.Progress.{Ends, FindsEnd, FitsLine, FitsSession, Prog
 use Rattle.ci_server.specs.Requests.{IsOfLine, Reads, Feeds, requests, requests_behind, line_request, with_feed}
 use Rattle.ci_server.specs.Served.{IsBetween}
 use Rattle.ci_server.specs.Session.{AsksFirst}
-use Rattle.ci_server.specs.Stops.{StopsIn}
+use Rattle.ci_worker.specs.Stops.{StopsIn}
 use Rattle.ci_server.specs.Turns.{IsTurn, IsTurnFront, Turns}
 use Rattle.ci_server.specs.Turns.Turns.{None as no_turns, Turn}
-use Rattle.ci_server.proofs.StepLemmas.{Remains-refl, Remains-trans}
+use Rattle.ci_worker.proofs.StepLemmas.{Remains-refl, Remains-trans}
 use Rattle.ci_server.proofs.StepsLemmas.{requests_in-append}
-use Rattle.ci_server.proofs.StopLemmas.{StopsIn-map}
+use Rattle.ci_worker.proofs.StopLemmas.{StopsIn-map}
 use Rattle.ci_server.proofs.TurnLemmas.{asked-first, asked-steps}
 
 Reads-none : (told : Option (List ℕ)) → Reads told told [] false

@@ -1,5 +1,5 @@
 -- The steps of a query, as far as they come.
-use Rattle.std.proofs.Common.{arith, ◌≡◌, ◌≢◌, ◌∙◌, ℕ, ◌+◌, ◌-◌, List, [], ◌∷◌, ◌++◌, length, take, Some, None, slice_get, inl, inr, ⊎_elim, refl, ap, sym, subst, append-nil}
+use Rattle.std.proofs.Common.{arith, ◌≡◌, ◌≢◌, ◌∙◌, ℕ, ◌+◌, ◌-◌, List, [], ◌∷◌, ◌++◌, length, take, Some, None, slice_get, inl, inr, ⊎_elim, refl, ap, sym, subst}
 use Rattle.std.proofs.lemmas.List.{length_push}
 use Rattle.std.proofs.Math.Seq.{take-length}
 use Rattle.ci_dialect.specs.declared.fault.QueryFault.{QueryFault}
@@ -11,8 +11,6 @@ use Rattle.ci_dialect.specs.Tree.{IsTree}
 use Rattle.ci_journal.specs.declared.event.Event.{Event}
 use Rattle.ci_journal.specs.declared.event.Happened.TheVariants.{Opened, Answered}
 use Rattle.ci_journal.specs.declared.request.Request.TheVariants as request
-use Rattle.ci_journal.specs.Bytes.{journal_bytes}
-use Rattle.ci_journal.specs.Folds.{numbered_paths}
 use Rattle.ci_journal.specs.Queries.{AsksAt, IsAnswer}
 use Rattle.ci_journal.specs.Served.{hits, hits_in, live_map}
 use Rattle.ci_journal.specs.Step.{MayAnswer}
@@ -27,12 +25,12 @@ use Rattle.ci_holdings.specs.Opening.{NoneWaits, Opens, RefusesOpening}
 use Rattle.ci_holdings.specs.Refusals.{IsRefused, Refuses}
 use Rattle.ci_holdings.specs.Steps.{IsUnrefused, Makes, Rests}
 use Rattle.ci_holdings.proofs.QueueLemmas.{request_at-push}
-use Rattle.ci_server.specs.Served.{IsAt, IsJustAsked}
-use Rattle.ci_server.specs.Stops.{AreBelowNext}
+use Rattle.ci_server.specs.Served.{IsJustAsked}
+use Rattle.ci_worker.specs.Stops.{IsAt}
 use Rattle.ci_server.specs.Turns.{AreSteps}
 use Rattle.ci_server.proofs.NotingLemmas.{whole-answered}
-use Rattle.ci_server.proofs.StepLemmas.{step-quiet}
-use Rattle.ci_server.proofs.StepsLemmas.{IsAt-none, IsAt-step, MaySay-at}
+use Rattle.ci_worker.proofs.StepLemmas.{IsAt-none, IsAt-rests, step-quiet}
+use Rattle.ci_server.proofs.StepsLemmas.{IsAt-step, MaySay-at}
 
 -- only the want of memory isn't met in the text
 pub is_met : (fault : QueryFault) (met : QueryKind × ℕ) → met_in fault ≡ Some met → fault ≢ OutOfMemory
@@ -46,20 +44,7 @@ module _ (old : Core) (id : ℕ) (text : List ℕ) (just : IsJustAsked old id (r
 
   -- and nothing was added
   pub rested-at : (a : Core) → Rests old a → IsUnrefused old a → KeepsFixed old a → IsAt old a []
-  rested-at a rests unrefused keeps =
-      let sound = just.sound in
-      record {
-        events = rests.stays.events ∙ sym (append-nil old.sheet.events);
-        remains = record { limit = rests.stays.limit; told = rests.told; fixed = keeps };
-        sound = record {
-          unrefused = unrefused.after;
-          within = omega (arith, sound.within, ap journal_bytes rests.stays.events, rests.stays.limit);
-          numbered = rests.numbered ∙ sound.numbered ∙ ap (numbered_paths old.terms) (sym rests.stays.events) ∙ ap (λ (t : Terms). numbered_paths t a.sheet.events) (sym rests.told.terms);
-          room = omega (arith, sound.room, ap length rests.numbered, rests.told.most);
-          below = subst (λ (t : Terms). AreBelowNext t a.sheet.events) (sym rests.told.terms) (subst (AreBelowNext old.terms) (sym rests.stays.events) sound.below);
-          plain = ap (λ (t : Terms). t.in_lists) rests.told.terms ∙ sound.plain;
-        };
-      }
+  rested-at a rests unrefused keeps = IsAt-rests old a just.sound rests unrefused keeps
 
   -- only this query can be opened
   pub Refuses-opening : (new : Core) (fault : CoreFault) → RefusesOpening old new 0 fault → Refuses old new (event 0 (Opened id)) fault

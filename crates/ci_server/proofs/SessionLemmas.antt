@@ -17,9 +17,9 @@ use Rattle.ci_server.specs.declared.status.Status.{Status}
 use Rattle.ci_server.specs.declared.status.Status.TheVariants.{Done, Usage, ReadFault, WriteFault, JournalFull, TooManyDocuments, OutOfMemory, EndlessLine}
 use Rattle.ci_server.specs.Progress.{Ends, FitsSession, Progress}
 use Rattle.ci_server.specs.Session.{AsksFirst, ComesNext, EndsBetween, InTurns, IsCrowdedAt, IsFullAt, IsWhole, Told, step_told}
-use Rattle.ci_server.specs.Stops.{IsNext, StopsIn}
+use Rattle.ci_worker.specs.Stops.{IsNext, StopsIn}
 use Rattle.ci_server.proofs.ProgressLemmas.{FitsSession-whole}
-use Rattle.ci_server.proofs.StopLemmas.{Fits-stops, prints-reply}
+use Rattle.ci_worker.proofs.StopLemmas.{Fits-stops, prints-reply}
 
 -- no more paths are noted than were when the step was refused
 same_numbered : (terms : Terms) (Fits : List Event → Type 0) (start core : Core) (fault : CoreFault) (stops : StopsIn Fits start core fault)
@@ -123,16 +123,6 @@ module _ (first : Reading) (start : Core) (now : Reading) (core : Core) (fixed :
   bounded (JournalFull used more) ends = bounded-cut (refusal.JournalFull used more) ends
   bounded TooManyDocuments ends = bounded-cut refusal.TooManyDocuments ends
   bounded OutOfMemory ends = bounded-cut refusal.OutOfMemory ends
-
-  pub within : (status : Status) → Ends first start now core status → journal_bytes core.sheet.events ≤ core.sheet.limit
-  within Done ends = ⊎_elim (λ progress. progress.between.sound.within) (λ over. over.progress.between.sound.within) ends
-  within Usage ends = absurd ends
-  within ReadFault ends = ends.1.progress.between.sound.within
-  within EndlessLine ends = ends.1.progress.between.sound.within
-  within WriteFault ends = ends.within
-  within (JournalFull used more) ends = ends.within
-  within TooManyDocuments ends = ends.within
-  within OutOfMemory ends = ends.within
 
   -- after a fault of the sink bytes at the end lack
   pub cut_off : Ends first start now core WriteFault → PrintsCut fixed.written core.sheet.written core.sheet.events

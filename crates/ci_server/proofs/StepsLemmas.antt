@@ -1,5 +1,5 @@
 -- The steps of a request, as far as they come.
-use Rattle.std.proofs.Common.{arith, ◌≡◌, ◌∙◌, ◌==◌, ℕ, ◌||◌, false, List, [], ◌∷◌, ◌++◌, length, slice_get, zero, suc, refl, ap, sym, append-nil, append_assoc}
+use Rattle.std.proofs.Common.{arith, ◌≡◌, ◌∙◌, ◌==◌, ℕ, ◌||◌, false, List, [], ◌∷◌, ◌++◌, length, slice_get, zero, suc, refl, ap, append-nil, append_assoc}
 use Rattle.std.proofs.lemmas.List.Folds.{list_any-append}
 use Rattle.std.specs.List.{list_any}
 use Rattle.ci_journal.specs.declared.event.Event.{Event}
@@ -14,21 +14,14 @@ use Rattle.ci_holdings.specs.Core.{Core}
 use Rattle.ci_core.specs.Fixed.{KeepsFixed}
 use Rattle.ci_holdings.specs.Refusals.{Refuses}
 use Rattle.ci_holdings.proofs.HaltsLemmas.{is_failed}
-use Rattle.ci_server.specs.Served.{FitsSteps, IsAt, ServesSteps, StopsSteps}
-use Rattle.ci_server.specs.Stops.{IsSound}
+use Rattle.ci_server.specs.Served.{FitsSteps, ServesSteps, StopsSteps}
+use Rattle.ci_worker.specs.Stops.{IsAt}
 use Rattle.ci_server.specs.Turns.{AreSteps, AreFirst}
-use Rattle.ci_server.proofs.StepLemmas.{IsStep, Remains-refl, Remains-trans}
-use Rattle.ci_server.proofs.StopLemmas.{NotesInRoom, StopsIn-map, StopsIn-refused, StopsIn-starved}
-
-pub IsAt-none : (old : Core) → IsSound old → IsAt old old []
-IsAt-none old sound = record { events = sym (append-nil old.sheet.events); remains = Remains-refl old; sound = sound }
+use Rattle.ci_worker.proofs.StepLemmas.{IsAt-then, IsStep}
+use Rattle.ci_worker.proofs.StopLemmas.{NotesInRoom, StopsIn-map, StopsIn-refused, StopsIn-starved}
 
 pub IsAt-step : (old a b : Core) (steps : List Event) (e : Event) → IsAt old a steps → IsStep a b e → IsAt old b (steps ++ e ∷ [])
-IsAt-step old a b steps e at step = record {
-  events = step.events ∙ ap (λ es. es ++ e ∷ []) at.events ∙ append_assoc old.sheet.events steps (e ∷ []);
-  remains = Remains-trans old a b at.remains step.remains;
-  sound = step.sound;
-}
+IsAt-step old a b steps e at step = IsAt-then old a b steps (e ∷ []) at step
 
 pub requests_in-append : (xs ys : List Event) → requests_in (xs ++ ys) ≡ requests_in xs ++ requests_in ys
 requests_in-append xs ys = tellings-append (λ (t : Tells). t.request) xs ys

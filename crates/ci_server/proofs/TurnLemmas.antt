@@ -11,11 +11,13 @@ use Rattle.ci_journal.specs.declared.event.Happened.{Happened}
 use Rattle.ci_journal.specs.declared.event.Happened.TheVariants.{Asked, Opened}
 use Rattle.ci_journal.specs.declared.request.Request.{Request}
 use Rattle.ci_journal.specs.declared.request.Request.TheVariants.{Changed, Deleted, Put, Query, Filter, Shadow, Master, Step, Scan, Pending, Unfiltered, Status, Load, Wait, Quit, Bad, Long}
+use Rattle.ci_journal.specs.Bytes.{event_bytes, journal_bytes}
+use Rattle.ci_journal.specs.Filings.{Filings, out}
 use Rattle.ci_journal.specs.Folds.{requests_in, request_at, is_opened, is_replied}
 use Rattle.ci_journal.specs.Queries.{Asks, Waits}
 use Rattle.ci_journal.specs.Tells.{event}
 use Rattle.ci_journal.specs.Terms.{Terms}
-use Rattle.ci_journal.proofs.FoldsLemmas.{is_replied-push, requests_in-push}
+use Rattle.ci_journal.proofs.FoldsLemmas.{filings-push, is_replied-push, journal_bytes-push, requests_in-push}
 use Rattle.ci_book.specs.declared.core_fault.CoreFault.{CoreFault}
 use Rattle.ci_book.specs.declared.core_fault.CoreFault.TheVariants.{OutOfMemory}
 use Rattle.ci_holdings.specs.Core.{Core}
@@ -25,13 +27,16 @@ use Rattle.ci_holdings.specs.Refusals.{Refuses}
 use Rattle.ci_holdings.specs.Steps.{IsUnrefused, Makes}
 use Rattle.ci_holdings.proofs.QueueLemmas.{Waits-before, request_at-new}
 use Rattle.ci_server.specs.Served.{FitsSteps, FitsTurn, IsBetween, IsJustAsked, ServesSteps, ServesTurn, StopsSteps, StopsTurn, WaitsAlone}
-use Rattle.ci_server.specs.Stops.{IsSound}
+use Rattle.ci_worker.specs.Filtering.{room_left}
+use Rattle.ci_worker.specs.Stops.{IsSound}
+use Rattle.ci_worker.specs.Way.{is_over}
+use Rattle.ci_worker.proofs.WayLemmas.{is_over-push}
 use Rattle.ci_server.specs.Turns.{AreFirst, AreSteps, Front}
 use Rattle.ci_server.specs.Turns.Front.{Begins}
 use Rattle.ci_server.proofs.FrontLemmas.{front-adds, openings_of}
-use Rattle.ci_server.proofs.StepLemmas.{IsStep, Remains-trans, step-quiet}
+use Rattle.ci_worker.proofs.StepLemmas.{IsStep, Remains-trans, less-behind, one_event, step-quiet}
 use Rattle.ci_server.proofs.StepsLemmas.{is_opened-append, is_replied-append, request_at-append, requests_in-append}
-use Rattle.ci_server.proofs.StopLemmas.{StopsIn-map, StopsIn-refused, StopsIn-starved}
+use Rattle.ci_worker.proofs.StopLemmas.{StopsIn-map, StopsIn-refused, StopsIn-starved}
 
 replied_last : (id : ℕ) → ((id == id) || false) ≡ true
 replied_last id = let same : (id == id) ≡ true = grind (arith, nat_tests) in rw same refl
@@ -120,8 +125,8 @@ none-behind terms journal id request steps made found alone other tree waits =
     cc
 
 -- when its steps were made each request has its reply
-between-steps : (a new : Core) (id : ℕ) (request : Request) → IsJustAsked a id request → ServesSteps a new id request → IsBetween new
-between-steps a new id request just serves =
+between-steps : (a new : Core) (id : ℕ) (request : Request) → IsJustAsked a id request → ServesSteps a new id request → out new.sheet.events ≡ [] → IsBetween new
+between-steps a new id request just serves back =
     let count : length (requests_in new.sheet.events) ≡ id =
     ap (λ es. length (requests_in es)) serves.events ∙ ap length (requests_in-append a.sheet.events serves.steps ∙ rw (asked-steps a.terms a.sheet.events id request serves.steps serves.made) (append-nil _)) ∙ sym just.last in
     record {
@@ -130,6 +135,7 @@ between-steps a new id request just serves =
       all_opened = λ other tree waits.
           none-behind a.terms a.sheet.events id request serves.steps serves.made just.found just.waits other tree
           (subst (λ es. Waits a.terms es other tree) serves.events (subst (λ (t : Terms). Waits t new.sheet.events other tree) serves.remains.told.terms waits));
+      back = back;
     }
   where
     by : (earlier : ℕ) → 0 < earlier → earlier ≤ id → (is_replied a.sheet.events earlier || is_replied serves.steps earlier) ≡ true
@@ -147,6 +153,14 @@ pub asked-step : (old a : Core) (id : ℕ) (request : Request) → IsSound old �
 asked-step old a id request sound next makes unrefused keeps =
     let e = event 0 (Asked (length (requests_in old.sheet.events) + 1) request) in
     subst (λ n. IsStep old a (event 0 (Asked n request))) (sym next) (step-quiet old a e sound refl makes unrefused keeps refl refl)
+
+-- which takes room
+pub asked-less : (old a : Core) (number : ℕ) (request : Request) → IsSound old → Makes old a (event 0 (Asked number request)) → room_left a < room_left old
+asked-less old a number request sound makes =
+    let e = event 0 (Asked number request) in
+    let added : a.sheet.events ≡ old.sheet.events ++ e ∷ [] = makes.adds.events ∙ ap (λ es. old.sheet.events ++ es) (one_event old e sound refl) in
+    let bytes : journal_bytes a.sheet.events ≡ journal_bytes old.sheet.events + event_bytes (Asked number request) = ap journal_bytes added ∙ journal_bytes-push old.sheet.events e in
+    omega (arith, bytes, makes.within, makes.adds.limit)
 
 module _ (old : Core) (asks : Request) (between : IsBetween old) where
   asking-fits : FitsTurn old.terms old.sheet.events (length (requests_in old.sheet.events) + 1) asks (old.sheet.events ++ event 0 (Asked (length (requests_in old.sheet.events) + 1) asks) ∷ [])
@@ -186,10 +200,14 @@ module _ (old : Core) (asks : Request) (between : IsBetween old) where
           waits = λ other tree waits. ⊎_elim (λ before. absurd (between.all_opened other tree before)) (λ new. new.0 ∙ sym next)
               (Waits-before old.terms old.sheet.events e other tree
               (subst (λ es. Waits old.terms es other tree) asking.events (subst (λ (t : Terms). Waits t a.sheet.events other tree) step.remains.told.terms waits)));
+          idle = record {
+            back = ap out asking.events ∙ ap (λ (f : Filings). f.out) (filings-push old.sheet.events e) ∙ between.back;
+            goes_on = ap is_over asking.events ∙ is_over-push old.sheet.events e;
+          };
         }
 
-    pub turn-serves : (new : Core) → IsJustAsked a id asks → ServesSteps a new id asks → ServesTurn old new (length (requests_in old.sheet.events) + 1) asks
-    turn-serves new just steps =
+    pub turn-serves : (new : Core) → IsJustAsked a id asks → ServesSteps a new id asks → out new.sheet.events ≡ [] → room_left a < room_left old → ServesTurn old new (length (requests_in old.sheet.events) + 1) asks
+    turn-serves new just steps back less =
         let serves = subst (λ n. ServesSteps a new n asks) next steps in
         let e = event 0 (Asked (length (requests_in old.sheet.events) + 1) asks) in
         record {
@@ -202,7 +220,8 @@ module _ (old : Core) (asks : Request) (between : IsBetween old) where
           };
           events_are = serves.events ∙ ap (λ es. es ++ serves.steps) asking.events ∙ append_assoc old.sheet.events (e ∷ []) serves.steps;
           remains = Remains-trans old a new step.remains serves.remains;
-          between = between-steps a new id asks just steps;
+          between = between-steps a new id asks just steps back;
+          grows = omega (arith, less, less-behind a new serves.steps serves.events serves.remains.limit);
         }
 
     pub turn-stops : (new : Core) (fault : CoreFault) → StopsSteps a new id asks fault → StopsTurn old new (length (requests_in old.sheet.events) + 1) asks fault

@@ -1,20 +1,22 @@
 -- What a session was given, what it left, and all that is promised of them: once, for every call that runs a session.
-use Rattle.std.specs.Prelude.{◌≡◌, ◌≢◌, ◌≤◌, ◌⊎◌, ℕ, List, Option, length}
+use Rattle.std.specs.Prelude.{◌≡◌, ◌≢◌, ◌≤◌, ◌⊎◌, ℕ, false, List, Option, None, length}
 use Rattle.std.specs.Io.KnownBytes.{Appends, IsAtEnd}
 use Rattle.ci_io.specs.Causes.{Rose}
 use Rattle.ci_journal.specs.declared.event.Event.{Event}
-use Rattle.ci_journal.specs.Bytes.{journal_bytes}
+use Rattle.ci_book.specs.Book.{IsWithin}
 use Rattle.ci_journal.specs.Folds.{numbered_paths}
 use Rattle.ci_journal.specs.Law.{AllAnswer}
 use Rattle.ci_journal.specs.Printed.{PrintsCut, printed}
 use Rattle.ci_journal.specs.Step.{Run}
 use Rattle.ci_journal.specs.Terms.{Terms}
+use Rattle.ci_link.specs.declared.record.LinkRecord.{LinkRecord}
+use Rattle.ci_worker.specs.Working.{Keeps, Working}
 use Rattle.ci_server.specs.declared.status.Status.{Status}
 use Rattle.ci_server.specs.declared.status.Status.TheVariants.{Done, Usage, ReadFault, WriteFault, JournalFull, TooManyDocuments, EndlessLine}
 use Rattle.ci_server.specs.Right.{AllReply}
 use Rattle.ci_server.specs.Session.{InTurns, IsWhole, EndsBetween, AsksFirst, AsksAll, AsksBefore, AsksTaken, EndsByQuit, ComesTooLong, IsFullAt, IsCrowdedAt, EndsWell, Told}
 
--- the settings, the source and the sink before and after, the status and the journal
+-- the settings; the source, the sink and the spawner before and after; the status and the journal
 pub record Course : Type 0 where
   pub terms : Terms
   pub limit : ℕ
@@ -27,6 +29,10 @@ pub record Course : Type 0 where
   pub written_after : Option (List ℕ)
   pub write_faults : ℕ
   pub write_faults_after : ℕ
+  pub records : Option (List LinkRecord)
+  pub records_after : Option (List LinkRecord)
+  pub spawn_faults : ℕ
+  pub spawn_faults_after : ℕ
   pub status : Status
   pub journal : List Event
 
@@ -75,9 +81,19 @@ IsComplete c =
     → ((used more : ℕ) → IsFullAt (told_of c) c.journal used more → ⊥) → (IsCrowdedAt (told_of c) c.journal → ⊥)
     → EndsWell c.status
 
+-- a worker that holds no link, whose spawner tells this
+abbrev pub unheld : Option (List LinkRecord) → ℕ → Working
+unheld records faults = record { records = records; faults = faults; held = None; lost = false }
+
+-- where the spawner tells the records of links, the journal's talks are the readings of those that were given back, and are
+-- backed by the bytes sent; each failed start that is told was a fault of the spawner; and an author begins batches while
+-- it holds a link
+abbrev pub IsDriven : Course → Type 0
+IsDriven c = Keeps (unheld c.records c.spawn_faults) (unheld c.records_after c.spawn_faults_after) c.journal
+
 -- the settings bound the journal at every end
 pub record IsBounded (c : Course) : Type 0 where
-  pub within : journal_bytes c.journal ≤ c.limit
+  pub within : IsWithin c.limit c.journal
   pub bounded : length (numbered_paths c.terms c.journal) ≤ c.most
 
 -- all that a session promises
@@ -87,4 +103,5 @@ pub record IsTold (c : Course) : Type 0 where
   pub prints : IsWritten c
   pub cause : HasCause c
   pub complete : IsComplete c
+  pub driven : IsDriven c
   pub bounds : IsBounded c

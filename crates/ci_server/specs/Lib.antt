@@ -5,6 +5,5 @@ pub mod Right
 pub mod Served
 pub mod Session
 pub mod Status
-pub mod Stops
 pub mod Turns
 pub mod Words

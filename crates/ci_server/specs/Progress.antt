@@ -19,7 +19,7 @@ use Rattle.ci_server.specs.declared.status.Status.TheVariants.{Done, Usage, Read
 use Rattle.ci_server.specs.Requests.{IsOfLine, Reads, Feeds}
 use Rattle.ci_server.specs.Served.{IsBetween, FitsTurn, ServesTurn}
 use Rattle.ci_server.specs.Session.{InTurns, AsksFirst}
-use Rattle.ci_server.specs.Stops.{Remains, StopsIn}
+use Rattle.ci_worker.specs.Stops.{Remains, StopsIn}
 use Rattle.ci_server.specs.Turns.{Turns}
 
 -- one line was read, and its request served, which may end the session

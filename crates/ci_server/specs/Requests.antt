@@ -6,6 +6,7 @@ use Rattle.ci_io.specs.declared.line.Line.TheVariants as line
 use Rattle.ci_io.specs.Lines.{raw_lines, HasNoFeed}
 use Rattle.ci_io.specs.Reading.{IsShort, line_of}
 use Rattle.ci_journal.specs.declared.request.Request.{Request}
+use Rattle.ci_journal.specs.declared.request.Request.TheVariants as request
 use Rattle.ci_journal.specs.Requests.{is_quit, request_of}
 
 -- the request of a line that still has its carriage return
@@ -24,6 +25,11 @@ before_endless (raw ∷ rest) = if nat_le 1073741824 (length raw) then [] else r
 
 abbrev pub requests : List ℕ → List Request
 requests bytes = through_quit (map line_request (before_endless (raw_lines bytes)))
+
+-- the request has a filtering made
+abbrev pub is_filter : Request → Bool
+is_filter request.Filter = true
+is_filter _ = false
 
 -- a line asks for it whose text is as long as a text may be, at most
 abbrev pub IsOfLine : Request → Type 0

@@ -1,10 +1,10 @@
 -- Which replies are right to a request, whatever was asked between and by whomever its steps were made.
-use Rattle.std.specs.Prelude.{◌≡◌, ◌<◌, ◌+◌, ℕ, true, List, drop, take, Some, Contains, slice_get}
+use Rattle.std.specs.Prelude.{◌≡◌, ◌<◌, ◌≤◌, ◌+◌, ℕ, true, List, drop, take, Some, Contains, length, slice_get}
 use Rattle.ci_base.specs.declared.numbers.Seq.{Seq}
 use Rattle.ci_change.specs.declared.notice.Notice.{Notice}
 use Rattle.ci_change.specs.declared.notice.What.{What}
 use Rattle.ci_change.specs.declared.notice.What.TheVariants.{Changed, Deleted}
-use Rattle.ci_change.specs.Pending.{ListsByPath}
+use Rattle.ci_change.specs.Pending.{ListsByPath, ListsPaths, paths_of}
 use Rattle.ci_chunk.specs.Plain.{plain}
 use Rattle.ci_dialect.specs.declared.fault.QueryFault.{QueryFault}
 use Rattle.ci_dialect.specs.declared.fault.QueryKind.{QueryKind}
@@ -20,9 +20,10 @@ use Rattle.ci_journal.specs.declared.reply.Reply.TheVariants as reply
 use Rattle.ci_journal.specs.declared.request.Request.{Request}
 use Rattle.ci_journal.specs.declared.request.Request.TheVariants as request
 use Rattle.ci_journal.specs.Folds.{is_replied}
-use Rattle.ci_journal.specs.Pending.{pending}
+use Rattle.ci_journal.specs.Pending.{pending, unfiltered}
 use Rattle.ci_journal.specs.Tells.{event}
 use Rattle.ci_journal.specs.Terms.{Terms}
+use Rattle.ci_worker.specs.Way.{IsFiltered, IsHopeless}
 
 -- one of the events tells this
 abbrev pub Happens : List Event → Happened → Type 0
@@ -43,6 +44,14 @@ pub record HasFault (noise : List (List ℕ)) (text : List ℕ) (kind : QueryKin
   pub first : IsFirstFault noise text fault
   pub met : met_in fault ≡ Some (kind, place)
 
+-- at a point since the asking all was filtered, and so many documents are set aside; or no daemon can be had
+abbrev pub IsFilterReply : Terms → List Event → List Event → Reply → Type 0
+IsFilterReply terms journal since (reply.Filtered count) =
+    (count ≡ length (unfiltered terms journal))
+    × (at : ℕ) × (length journal ≤ at + length since) × IsFiltered terms (take at journal)
+IsFilterReply terms journal since reply.NoDaemon = IsHopeless terms journal since
+IsFilterReply terms journal since _ = ⊥
+
 -- what is said to a request of this number is right behind the journal, of which the events since its asking are given;
 -- a line that isn't known is told so, and so is one that no step serves yet
 abbrev pub IsRight : Terms → List Event → List Event → ℕ → Request → Reply → Type 0
@@ -54,8 +63,11 @@ IsRight terms journal since id (request.Put path text) said =
     (said ≡ reply.Ok) × (seq : Seq) × Notes since path Changed seq × Happens since (Put path seq (plain path text))
 IsRight terms journal since id (request.Query text) said =
     (kind : QueryKind) × (place : ℕ) × (said ≡ reply.QueryFault kind place) × HasFault terms.noise text kind place
+IsRight terms journal since id request.Filter said = IsFilterReply terms journal since said
 IsRight terms journal since id request.Pending said =
     (notices : List Notice) × (said ≡ reply.Pending notices) × ListsByPath (pending terms journal) notices
+IsRight terms journal since id request.Unfiltered said =
+    (paths : List (List ℕ)) × (said ≡ reply.Unfiltered paths) × ListsPaths (paths_of (unfiltered terms journal)) paths
 IsRight terms journal since id request.Wait said = (said ≡ reply.Done) × AreRepliedBefore journal id
 IsRight terms journal since id request.Quit said = (said ≡ reply.Bye) × AreRepliedBefore journal id
 IsRight terms journal since id request.Long said = said ≡ reply.Long

@@ -1,5 +1,5 @@
 -- What serving a request does to a catalogue.
-use Rattle.std.specs.Prelude.{◌≡◌, ◌+◌, ℕ, false, List, [], ◌∷◌, ◌++◌, Some, length}
+use Rattle.std.specs.Prelude.{◌≡◌, ◌<◌, ◌+◌, ℕ, false, List, [], ◌∷◌, ◌++◌, Some, length}
 use Rattle.ci_base.specs.declared.numbers.Seq.{Seq}
 use Rattle.ci_change.specs.declared.notice.What.{What}
 use Rattle.ci_dialect.specs.declared.restriction.Restriction.{Restriction}
@@ -7,6 +7,7 @@ use Rattle.ci_journal.specs.declared.event.Event.{Event}
 use Rattle.ci_journal.specs.declared.event.Happened.TheVariants.{Said}
 use Rattle.ci_journal.specs.declared.reply.Reply.{Reply}
 use Rattle.ci_journal.specs.declared.request.Request.{Request}
+use Rattle.ci_journal.specs.Filings.{out}
 use Rattle.ci_journal.specs.Folds.{requests_in, next_notice, request_at, is_opened}
 use Rattle.ci_journal.specs.Queries.{Waits}
 use Rattle.ci_journal.specs.Step.{MaySay}
@@ -17,20 +18,23 @@ use Rattle.ci_book.specs.Changes.{noted}
 use Rattle.ci_holdings.specs.Core.{Core}
 use Rattle.ci_holdings.specs.Opening.{NoneWaits}
 use Rattle.ci_server.specs.Right.{AreRepliedBefore}
-use Rattle.ci_server.specs.Stops.{IsSound, Remains, StopsIn}
+use Rattle.ci_worker.specs.Filtering.{room_left}
+use Rattle.ci_worker.specs.Stops.{IsAt, IsSound, Remains, StopsIn}
+use Rattle.ci_worker.specs.Way.{IsIdle}
 use Rattle.ci_server.specs.Turns.{AreSteps, AreFirst, IsTurn, IsTurnFront}
 
--- between two turns each request has its reply, and no query waits
+-- between two turns each request has its reply, no query waits, and no batch is out
 pub record IsBetween (core : Core) : Type 0 where
   pub sound : IsSound core
   pub replied : AreRepliedBefore core.sheet.events (length (requests_in core.sheet.events) + 1)
   pub all_opened : NoneWaits core.terms core.sheet.events
+  pub back : out core.sheet.events ≡ []
 
 -- no query waits but that of this request
 abbrev pub WaitsAlone : Terms → List Event → ℕ → Type 0
 WaitsAlone terms events id = (other : ℕ) (tree : Restriction) → Waits terms events other tree → other ≡ id
 
--- the request was the last thing that was asked: it alone has no reply, and its query is the only one that may wait
+-- the request was the last thing that happened: it alone has no reply, and its query is the only one that may wait
 pub record IsJustAsked (core : Core) (id : ℕ) (request : Request) : Type 0 where
   pub sound : IsSound core
   pub may_reply : MaySay core.sheet.events id
@@ -39,12 +43,7 @@ pub record IsJustAsked (core : Core) (id : ℕ) (request : Request) : Type 0 whe
   pub replied : AreRepliedBefore core.sheet.events id
   pub unopened : is_opened core.sheet.events id ≡ false
   pub waits : WaitsAlone core.terms core.sheet.events id
-
--- these events were added, by steps that were not refused
-pub record IsAt (old now : Core) (steps : List Event) : Type 0 where
-  pub events : now.sheet.events ≡ old.sheet.events ++ steps
-  pub remains : Remains old now
-  pub sound : IsSound now
+  pub idle : IsIdle core.sheet.events
 
 -- the steps of a request were made, its reply the last
 pub record ServesSteps (old new : Core) (id : ℕ) (request : Request) : Type 0 where
@@ -90,13 +89,14 @@ StopsReplying now new id reply fault =
     → AreSteps old.terms old.sheet.events id request (steps ++ event 0 (Said id reply) ∷ [])
     → StopsSteps old new id request fault
 
--- the request was asked, and its steps were made
+-- the request was asked, and its steps were made, so that less room is left
 pub record ServesTurn (old new : Core) (id : ℕ) (request : Request) : Type 0 where
   pub events : List Event
   pub turn : IsTurn old.terms old.sheet.events id request events
   pub events_are : new.sheet.events ≡ old.sheet.events ++ events
   pub remains : Remains old new
   pub between : IsBetween new
+  pub grows : room_left new < room_left old
 
 -- the journal goes on with the first events of a request's turn
 abbrev pub FitsTurn : Terms → List Event → ℕ → Request → List Event → Type 0

@@ -16,6 +16,7 @@ use Rattle.ci_journal.specs.Step.{step_of}
 use Rattle.ci_journal.specs.Tells.{event}
 use Rattle.ci_journal.specs.Terms.{Terms}
 use Rattle.ci_server.specs.Right.{IsRight}
+use Rattle.ci_worker.specs.Way.{IsNextOf}
 
 -- ---- which step comes next
 
@@ -28,16 +29,17 @@ IsNoting path kind steps what =
 abbrev pub HasNoted : List ℕ → What → Seq → List Happened → Type 0
 HasNoted path kind seq steps = steps ≡ Noted (record { path = path; seq = seq; what = kind }) ∷ []
 
--- behind these steps of the request this is the next one; the requests that aren't here have no steps
-abbrev pub IsNextStep : ℕ → Request → List Happened → Happened → Type 0
-IsNextStep id (request.Changed path) steps what = IsNoting path Changed steps what
-IsNextStep id (request.Deleted path) steps what =
+-- behind the journal, and these steps of the request, this is the next one; the requests that aren't here have no steps
+abbrev pub IsNextStep : Terms → List Event → ℕ → Request → List Happened → Happened → Type 0
+IsNextStep terms journal id (request.Changed path) steps what = IsNoting path Changed steps what
+IsNextStep terms journal id (request.Deleted path) steps what =
     IsNoting path Deleted steps what ⊎ ((seq : Seq) × HasNoted path Deleted seq steps × (what ≡ Erased path seq))
-IsNextStep id (request.Put path text) steps what =
+IsNextStep terms journal id (request.Put path text) steps what =
     IsNoting path Changed steps what
     ⊎ ((seq : Seq) × HasNoted path Changed seq steps × (what ≡ Put path seq (plain path text)))
-IsNextStep id (request.Query text) steps what = (steps ≡ []) × (what ≡ Opened id)
-IsNextStep id _ steps what = ⊥
+IsNextStep terms journal id (request.Query text) steps what = (steps ≡ []) × (what ≡ Opened id)
+IsNextStep terms journal id request.Filter steps what = IsNextOf terms 0 journal what
+IsNextStep terms journal id _ steps what = ⊥
 
 -- the first steps of a request, which was just asked behind the journal's other events, in order, and the events that
 -- they came to; the foreground makes them all
@@ -45,7 +47,7 @@ pub data Front (terms : Terms) (journal : List Event) (id : ℕ) (request : Requ
     : List Happened → List Event → Type 0 where
   Begins : Front terms journal id request [] []
   Goes : (steps : List Happened) (events : List Event) (what : Happened) →
-      Front terms journal id request steps events → IsNextStep id request steps what →
+      Front terms journal id request steps events → IsNextStep terms (journal ++ events) id request steps what →
       Front terms journal id request (steps ++ what ∷ []) (events ++ step_of terms (journal ++ events) 0 what)
 
 -- ---- what ends a turn

@@ -8,20 +8,23 @@ use crate::{Session, Status, run_steps};
 use ci_base::Text;
 use ci_core::Settings;
 use ci_io::{Sink, Source};
+use ci_link::Spawner;
 use std::alloc::Global;
 
 /// Runs the session that the command line asks for: the program's name, `steps`, and the one scope `/`.
-pub fn run<S: Source + Drop, K: Sink + Drop>(
+pub fn run<S: Source + Drop, K: Sink + Drop, P: Spawner + Drop>(
     alloc: Global,
     words: &[Text],
     source: S,
     sink: K,
-) -> Session<S, K>
+    spawner: P,
+) -> Session<S, K, P>
     // Other words are refused, and then nothing is read or written.
     ensures usage { (result.status ≡ Status.Usage) ↔ (are_words words.now ≡ false) }
     ensures idle { result.status ≡ Status.Usage → result.journal.list ≡ [] }
     ensures unread { result.status ≡ Status.Usage → result.source ≡ source }
     ensures unwritten { result.status ≡ Status.Usage → result.sink ≡ sink }
+    ensures unstarted { result.status ≡ Status.Usage → result.spawner ≡ spawner }
 
     // Otherwise what `run_steps` promises holds under the standard settings: the most that settings
     // allow, four attempts at a document, and the standard noise words.
@@ -37,16 +40,20 @@ pub fn run<S: Source + Drop, K: Sink + Drop>(
       written_after = K.written result.sink;
       write_faults = K.faults sink;
       write_faults_after = K.faults result.sink;
+      records = P.records spawner;
+      records_after = P.records result.spawner;
+      spawn_faults = P.faults spawner;
+      spawn_faults_after = P.faults result.spawner;
       status = result.status;
       journal = result.journal.list;
     }) }
 {
     if !are_words(words) {
-        return Session::idle(alloc, Status::Usage, source, sink);
+        return Session::idle(alloc, Status::Usage, source, sink, spawner);
     }
     match Settings::standard(alloc) {
-        Ok(settings) => run_steps(alloc, &settings, source, sink),
-        Err(_) => Session::idle(alloc, Status::OutOfMemory, source, sink),
+        Ok(settings) => run_steps(alloc, &settings, source, sink, spawner),
+        Err(_) => Session::idle(alloc, Status::OutOfMemory, source, sink, spawner),
     }
 }
 

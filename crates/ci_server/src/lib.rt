@@ -4,6 +4,7 @@
 mod command;
 mod read_lines;
 mod serve_document;
+mod serve_filter;
 mod serve_line;
 mod serve_query;
 mod serve_reply;
@@ -14,6 +15,7 @@ mod steps;
 pub use command::run;
 use read_lines::read_lines;
 use serve_document::{serve_changed, serve_deleted, serve_put};
+use serve_filter::serve_filter;
 use serve_line::serve_line;
 use serve_query::serve_query;
 use serve_reply::{note_here, say_reply};

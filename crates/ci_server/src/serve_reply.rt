@@ -1,7 +1,8 @@
 ghost use Rattle.std.specs.Prelude.{◌≡◌, IfOk, OnOk, IfErr};
 ghost use Rattle.ci_journal.specs.Step.{MaySay};
 ghost use Rattle.ci_server.specs.Served.{IsNotedHere, Replies, StopsNoting, StopsReplying};
-ghost use Rattle.ci_server.specs.Stops.{IsSound};
+ghost use Rattle.ci_worker.specs.Filtering.{GoesBeside};
+ghost use Rattle.ci_worker.specs.Stops.{IsSound};
 
 use crate::FOREGROUND;
 use ci_base::{PathText, Seq};
@@ -31,6 +32,7 @@ pub fn say_reply<K: Sink + Drop>(
     requires { MaySay catalog.old.sheet.events id }
     ensures ok { OnOk result (Replies catalog.old catalog.new id reply) }
     ensures err { IfErr result (StopsReplying catalog.old catalog.new id reply) }
+    ensures beside { GoesBeside catalog.old.sheet.events catalog.new.sheet.events }
 {
     catalog.say(FOREGROUND, id, reply)
 }

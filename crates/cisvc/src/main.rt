@@ -1,8 +1,9 @@
-//! The catalogue server over standard input and standard output.
+//! The catalogue server over standard input and standard output, and daemons in processes.
 #![tactic(auto)]
 
 use ci_base::Text;
 use ci_io::{StdSink, StdSource};
+use ci_link::ChildSpawner;
 use ci_server::{Status, run};
 use std::env;
 use std::env::Env;
@@ -14,7 +15,8 @@ fn main(rt: HostRuntime) -> ExitCode {
         Ok(words) => {
             let source = StdSource::new(rt.stdin());
             let sink = StdSink::new(rt.stdout());
-            run(rt.alloc(), &words, source, sink).status
+            let spawner = ChildSpawner::new(&rt);
+            run(rt.alloc(), &words, source, sink, spawner).status
         }
         Err(error) if error.kind() == ErrorKind::OutOfMemory => Status::OutOfMemory,
         // A word that isn't UTF-8 is no word of the command line.

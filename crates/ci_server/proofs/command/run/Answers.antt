@@ -10,3 +10,4 @@ returns-in-Ok-clause-told g c usage =
 
 pub returns-in-Err-clause-told : goal.returns-in-Err-clause-told
 returns-in-Err-clause-told g c usage = IsTold-idle _ standard_noise 4 refl c.idle-in-Err.ensures.journal c.idle-in-Err.ensures.status (ap (λ k. g.K.Sink.written k) c.idle-in-Err.ensures.sink)
+    (ap (λ p. g.P.Spawner.records p) c.idle-in-Err.ensures.spawner) (ap (λ p. g.P.Spawner.faults p) c.idle-in-Err.ensures.spawner)

@@ -5,7 +5,7 @@ use Rattle.ci_server.proofs.read_lines.next_line.Goals as goal
 pub returns-in-Err-clause-err : goal.returns-in-Err-clause-err
 returns-in-Err-clause-err g c =
     let e = c.in-Err.ensures in
-    rw c.from.ensures (StopsAt-unread c.args.reader.now c.read_line.new.self _ c.in-Err.fault c.requires.sound (record {
+    rw c.from.ensures (StopsAt-unread c.args.reader.now c.read_line.new.self _ c.in-Err.fault c.requires.between.sound (record {
       loses = e.err;
       rose = λ is. e.failed (let h = is in cc);
       held = λ is. e.failed_within (let h = is in cc);

@@ -4,7 +4,7 @@ use Rattle.ci_change.specs.declared.notice.What.TheVariants.{Changed}
 use Rattle.ci_journal.specs.declared.request.Request.TheVariants as request
 use Rattle.ci_journal.specs.Folds.{next_notice}
 use Rattle.ci_book.specs.Changes.{noted}
-use Rattle.ci_server.proofs.DocumentLemmas.{IfErr-map, OnOk-map}
+use Rattle.ci_worker.proofs.BatchLemmas.{IfErr-map, OnOk-map}
 use Rattle.ci_server.proofs.NotingLemmas.{first-changed, whole-changed}
 use Rattle.ci_server.proofs.StepsLemmas.{MaySay-at}
 use Rattle.ci_server.proofs.serve_document.serve_changed.Goals as goal

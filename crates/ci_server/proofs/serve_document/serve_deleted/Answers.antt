@@ -7,7 +7,7 @@ use Rattle.ci_journal.specs.Folds.{next_notice}
 use Rattle.ci_journal.specs.Tells.{event}
 use Rattle.ci_book.specs.Changes.{noted}
 use Rattle.ci_server.proofs.DeletionLemmas.{Refuses-erasing, always_erases, erased-at}
-use Rattle.ci_server.proofs.DocumentLemmas.{IfErr-map, OnOk-map}
+use Rattle.ci_worker.proofs.BatchLemmas.{IfErr-map, OnOk-map}
 use Rattle.ci_server.proofs.NotingLemmas.{first-deletion, first-erased, whole-deleted}
 use Rattle.ci_server.proofs.StepsLemmas.{MaySay-at, steps-stop}
 use Rattle.ci_server.proofs.serve_document.serve_deleted.Goals as goal

@@ -7,7 +7,8 @@ use Rattle.ci_journal.specs.declared.request.Request.TheVariants as request
 use Rattle.ci_journal.specs.Folds.{next_notice}
 use Rattle.ci_journal.specs.Tells.{event}
 use Rattle.ci_book.specs.Changes.{noted}
-use Rattle.ci_server.proofs.DocumentLemmas.{IfErr-map, MayPut-at, OnOk-map, put-at}
+use Rattle.ci_worker.proofs.BatchLemmas.{IfErr-map, OnOk-map}
+use Rattle.ci_server.proofs.DocumentLemmas.{MayPut-at, put-at}
 use Rattle.ci_server.proofs.NotingLemmas.{first-change, first-put, whole-put}
 use Rattle.ci_server.proofs.StepsLemmas.{MaySay-at, steps-starve, steps-stop}
 use Rattle.ci_server.proofs.serve_document.serve_put.Goals as goal

@@ -4,7 +4,8 @@ use Rattle.ci_journal.specs.declared.reply.Reply.TheVariants as reply
 use Rattle.ci_journal.specs.declared.request.Request.TheVariants as request
 use Rattle.ci_server.specs.Turns.Front.{Begins}
 use Rattle.ci_server.proofs.DocumentLemmas.{alone-serves, alone-stops}
-use Rattle.ci_server.proofs.StepsLemmas.{IsAt-none, steps-starve}
+use Rattle.ci_server.proofs.StepsLemmas.{steps-starve}
+use Rattle.ci_worker.proofs.StepLemmas.{IsAt-none}
 use Rattle.ci_server.proofs.serve_line.serve_pending.Goals as goal
 
 pub returns-in_err-notices-clause-err : goal.returns-in_err-notices-clause-err

@@ -1,5 +1,7 @@
 use Rattle.std.proofs.lemmas.Result.{err_from_is_err_and}
-use Rattle.ci_server.proofs.TurnLemmas.{asked-step, turn-halts, turn-starves, turn-serves, turn-stops, just-asked}
+use Rattle.ci_worker.proofs.KeepsLemmas.{Holds-goes, Keeps-goes}
+use Rattle.ci_server.proofs.BesideLemmas.{asked-beside}
+use Rattle.ci_server.proofs.TurnLemmas.{asked-less, asked-step, turn-halts, turn-starves, turn-serves, turn-stops, just-asked}
 use Rattle.ci_server.proofs.serve_line.serve_request.Goals as goal
 
 pub returns-in_err-copied-clause-err : goal.returns-in_err-copied-clause-err
@@ -31,4 +33,19 @@ returns-clause-ok g c =
     let a = c.in_ok-id.ensures in
     let step = asked-step _ _ c.in_ok-id.id c.in_ok-copied.copied c.requires.between.sound a.id a.step.ok a.step.unrefused a.fixed in
     let just = just-asked _ c.args.request.now c.requires.between _ c.in_ok-id.id c.in_ok-copied.copied a.id c.in_ok-copied.ensures step a.unreplied a.unopened in
-    turn-serves _ c.args.request.now c.requires.between _ c.in_ok-id.id c.in_ok-copied.copied a.id c.in_ok-copied.ensures step _ just c.in_ok-serve_steps.ensures.ok
+    turn-serves _ c.args.request.now c.requires.between _ c.in_ok-id.id c.in_ok-copied.copied a.id c.in_ok-copied.ensures step _ just c.in_ok-serve_steps.ensures.ok c.in_ok-serve_steps.ensures.back
+    (asked-less _ _ _ c.in_ok-copied.copied c.requires.between.sound a.step.ok)
+
+pub serve_steps-requires-clause-holds : goal.serve_steps-requires-clause-holds
+serve_steps-requires-clause-holds g c =
+    Holds-goes _ _ (asked-beside c.args.catalog.now c.ask.new.self _ c.in_ok-copied.copied c.in_ok-id.ensures.step.ok) c.args.worker.now 0 c.requires.holds
+
+pub returns-in_err-serve_steps-clause-keeps : goal.returns-in_err-serve_steps-clause-keeps
+returns-in_err-serve_steps-clause-keeps g c = λ first keeps.
+    let beside = asked-beside c.args.catalog.now c.ask.new.self _ c.in_ok-copied.copied c.in_ok-id.ensures.step.ok in
+    c.in_err-serve_steps.ensures.keeps first (Keeps-goes _ _ beside first c.args.worker.now keeps)
+
+pub returns-clause-keeps : goal.returns-clause-keeps
+returns-clause-keeps g c = λ first keeps.
+    let beside = asked-beside c.args.catalog.now c.ask.new.self _ c.in_ok-copied.copied c.in_ok-id.ensures.step.ok in
+    c.in_ok-serve_steps.ensures.keeps first (Keeps-goes _ _ beside first c.args.worker.now keeps)

@@ -8,12 +8,13 @@ use Rattle.ci_journal.specs.Tells.{event}
 use Rattle.ci_journal.specs.Terms.{Terms}
 use Rattle.ci_server.specs.Right.{HasFault}
 use Rattle.ci_server.specs.Turns.Front.{Begins}
-use Rattle.ci_server.proofs.DocumentLemmas.{IfErr-map, OnOk-map}
+use Rattle.ci_worker.proofs.BatchLemmas.{IfErr-map, OnOk-map}
 use Rattle.ci_server.proofs.QueryLemmas.{Refuses-opening, no_tree, opened-at, may-answer, rested-at, whole-answer, Refuses-answer, Makes-answer}
 use Rattle.ci_server.proofs.FrontLemmas.{whole-alone}
 use Rattle.ci_server.proofs.NotingLemmas.{first-opened}
-use Rattle.ci_server.proofs.StepLemmas.{step-quiet}
-use Rattle.ci_server.proofs.StepsLemmas.{IsAt-none, MaySay-at, steps-serve, steps-starve, steps-stop}
+use Rattle.ci_worker.proofs.StepLemmas.{step-quiet}
+use Rattle.ci_worker.proofs.StepLemmas.{IsAt-none}
+use Rattle.ci_server.proofs.StepsLemmas.{MaySay-at, steps-serve, steps-starve, steps-stop}
 use Rattle.ci_server.proofs.serve_query.serve_query.Goals as goal
 
 pub returns-in_err-question-clause-err : goal.returns-in_err-question-clause-err

@@ -1,23 +1,20 @@
 -- A session that stops at a refused step.
-use Rattle.std.proofs.Common.{arith, ◌≡◌, ◌<◌, ◌≤◌, ◌∙◌, ℕ, false, List, [], ◌∷◌, ◌++◌, length, ◌⊎◌, Option, Some, None, ⊎_elim, refl, ap, sym, subst}
+use Rattle.std.proofs.Common.{arith, ◌≡◌, ◌<◌, ◌∙◌, ℕ, false, List, [], ◌∷◌, ◌++◌, length, ◌⊎◌, Option, Some, None, ⊎_elim, refl, sym, subst}
 use Rattle.ci_io.specs.Putting.{AppendsFront}
 use Rattle.ci_journal.specs.declared.event.Event.{Event}
 use Rattle.ci_journal.specs.declared.event.Happened.{Happened}
 use Rattle.ci_journal.specs.declared.event.Happened.TheVariants.{Asked, Noted, Put, Erased, Started, StartFailed, DaemonLost, Begun, BatchDone, BatchDied, Returned, Shadowed, MasterBegun, MasterStep, MasterEnded, Opened, Answered, Said}
-use Rattle.ci_journal.specs.Bytes.{journal_bytes}
 use Rattle.ci_journal.specs.Printed.{lines_of}
 use Rattle.ci_book.specs.declared.core_fault.CoreFault.{CoreFault}
 use Rattle.ci_book.specs.declared.core_fault.CoreFault.TheVariants.{TooManyDocuments, JournalFull, OutOfMemory, WriteFault, Ended}
-use Rattle.ci_book.specs.Changes.{Stays}
 use Rattle.ci_holdings.specs.Core.{Core}
 use Rattle.ci_core.specs.Fixed.{KeepsFixed, PrintsAfter}
 use Rattle.ci_journal.specs.Tells.{tells}
 use Rattle.ci_holdings.specs.Refusals.{IsCrowded, IsOver, Refuses, Stops}
-use Rattle.ci_book.specs.Sheet.{Sheet}
 use Rattle.ci_holdings.specs.Steps.{step_in}
 use Rattle.ci_holdings.proofs.HaltsLemmas.{is_failed}
-use Rattle.ci_server.specs.Stops.{Halts, IsNext, IsSound, Remains, StopsIn}
-use Rattle.ci_server.proofs.StepLemmas.{Remains-refl, Remains-trans, one_event}
+use Rattle.ci_worker.specs.Stops.{Halts, IsNext, IsSound, Remains, StopsIn}
+use Rattle.ci_worker.proofs.StepLemmas.{Remains-refl, Remains-trans, one_event}
 
 -- what prints lines is neither a notice nor a failed start
 pub record IsReply (what : Happened) : Type 0 where
@@ -76,7 +73,6 @@ module _ (Fits Holds : List Event → Type 0) (holds : (journal : List Event) �
     sound = stops.sound;
     fits = holds stops.mid.sheet.events stops.fits;
     halts = Halts-map stops.mid new fault stops.halts;
-    within = stops.within;
     fixed = λ fixed has. stops.fixed fixed (remains.fixed fixed has);
     prints = λ fixed has. stops.prints fixed (remains.fixed fixed has);
   }
@@ -104,32 +100,38 @@ Halts-from_stops Fits old new event Ended next room stops = absurd stops
 pub never_over : (old new : Core) (fault : CoreFault) → IsSound old → IsOver old new fault → ⊥
 never_over old new fault sound over = let both : None ≡ Some over.refusal = sym sound.unrefused ∙ over.earlier in cc
 
--- a refusal leaves a journal within the bound
-stays-within : (old new : Sheet) → Stays old new → journal_bytes old.events ≤ old.limit → journal_bytes new.events ≤ new.limit
-stays-within old new stays within = omega (arith, within, ap journal_bytes stays.events, stays.limit)
-
-within-refused : (old new : Core) (event : Event) (fault : CoreFault) → journal_bytes old.sheet.events ≤ old.sheet.limit → Stops old new event fault → journal_bytes new.sheet.events ≤ new.sheet.limit
-within-refused old new event TooManyDocuments within stops = stays-within old.sheet new.sheet stops.1 within
-within-refused old new event (JournalFull used more) within stops = stays-within old.sheet new.sheet stops.0.stays within
-within-refused old new event OutOfMemory within stops = stays-within old.sheet new.sheet stops.stays within
-within-refused old new event WriteFault within stops = stops.0.within
-within-refused old new event Ended within stops = absurd stops
-
 -- the step that tells this event was refused
-pub StopsIn-refused : (Fits : List Event → Type 0) (old new : Core) (event : Event) (fault : CoreFault) → IsSound old → is_failed event.what ≡ false → Fits old.sheet.events → Fits (old.sheet.events ++ event ∷ [])
+pub StopsIn-halted : (Fits : List Event → Type 0) (old new : Core) (event : Event) (fault : CoreFault) → IsSound old → Fits old.sheet.events → Fits (old.sheet.events ++ step_in old event)
     → Refuses old new event fault → KeepsFixed old new → NotesInRoom old event fault → StopsIn Fits old new fault
-StopsIn-refused Fits old new event fault sound other fits fits_on refuses keeps room =
+StopsIn-halted Fits old new event fault sound fits fits_on refuses keeps room =
     ⊎_elim (λ over. absurd (never_over old new fault sound over))
     (λ refused. record {
       mid = old;
       remains = Remains-refl old;
       sound = sound;
       fits = fits;
-      halts = Halts-from_stops Fits old new event fault (record { fits = subst (λ es. Fits (old.sheet.events ++ es)) (sym (one_event old event sound other)) fits_on; may = refused.may }) room refused.halts.1;
-      within = within-refused old new event fault sound.within refused.halts.1;
+      halts = Halts-from_stops Fits old new event fault (record { fits = fits_on; may = refused.may }) room refused.halts.1;
       fixed = keeps;
       prints = λ fixed has. subst (PrintsAfter fixed new.sheet) refused.kept (keeps fixed has).prints;
     }) refuses
+
+-- and it has one event
+pub StopsIn-refused : (Fits : List Event → Type 0) (old new : Core) (event : Event) (fault : CoreFault) → IsSound old → is_failed event.what ≡ false → Fits old.sheet.events → Fits (old.sheet.events ++ event ∷ [])
+    → Refuses old new event fault → KeepsFixed old new → NotesInRoom old event fault → StopsIn Fits old new fault
+StopsIn-refused Fits old new event fault sound other fits fits_on refuses keeps room =
+    StopsIn-halted Fits old new event fault sound fits (subst (λ es. Fits (old.sheet.events ++ es)) (sym (one_event old event sound other)) fits_on) refuses keeps room
+
+-- an event that prints nothing isn't cut off, so that the journal is as it was
+pub refused-same : (old new : Core) (event : Event) (fault : CoreFault) → IsSound old → length (lines_of event.what) ≡ 0 → Refuses old new event fault → new.sheet.events ≡ old.sheet.events
+refused-same old new event fault sound silent refuses =
+    ⊎_elim (λ over. absurd (never_over old new fault sound over)) (λ refused. by fault refused.halts.1) refuses
+  where
+    by : (fault : CoreFault) → Stops old new event fault → new.sheet.events ≡ old.sheet.events
+    by TooManyDocuments stops = stops.1.events
+    by (JournalFull used more) stops = stops.0.stays.events
+    by OutOfMemory stops = stops.stays.events
+    by WriteFault stops = let some = some_lines _ _ _ stops.0.written in absurd (omega (arith, some, silent))
+    by Ended stops = absurd stops
 
 -- there was no memory for what a step needs first
 pub StopsIn-starved : (Fits : List Event → Type 0) (core : Core) → IsSound core → Fits core.sheet.events → StopsIn Fits core core OutOfMemory
@@ -139,7 +141,6 @@ StopsIn-starved Fits core sound fits = record {
   sound = sound;
   fits = fits;
   halts = refl;
-  within = sound.within;
   fixed = λ fixed has. has;
   prints = λ fixed has. subst (PrintsAfter fixed core.sheet) sound.unrefused has.prints;
 }

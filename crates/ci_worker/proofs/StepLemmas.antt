@@ -1,13 +1,17 @@
 -- One step of a session: what it adds, and what it keeps.
-use Rattle.std.proofs.Common.{arith, ◌≡◌, ◌≤◌, ◌<◌, ◌+◌, ◌∙◌, ℕ, max, Bool, true, false, List, [], ◌∷◌, ◌++◌, length, bytes_eq, Some, None, option_to_list, if◌then◌else◌, inl, inr, refl, ap, sym, subst, append-nil, append_assoc}
+use Rattle.std.proofs.Common.{arith, ◌≡◌, ◌≤◌, ◌<◌, ◌+◌, ◌∙◌, ℕ, max, Bool, true, false, List, [], ◌∷◌, ◌++◌, All, length, bytes_eq, Some, None, option_to_list, if◌then◌else◌, inl, inr, refl, ap, sym, subst, append-nil, append_assoc}
+use Rattle.std.proofs.lemmas.List.Elements.{All-weaker}
 use Rattle.std.proofs.lemmas.List.{length_push}
 use Rattle.std.proofs.lemmas.Bool.{cases_lt}
+use Rattle.std.proofs.lemmas.List.Sums.{sum_by-append}
 use Rattle.ci_base.specs.declared.numbers.Seq.{Seq}
+use Rattle.ci_change.specs.declared.batch.Batch.{Batch}
 use Rattle.ci_change.specs.declared.notice.What.{What}
 use Rattle.ci_change.specs.Pending.{latest_number, served_number}
 use Rattle.ci_change.proofs.UnservedLemmas.{latest_number-push, served_number-push}
 use Rattle.ci_journal.specs.declared.event.Event.{Event}
-use Rattle.ci_journal.specs.Filings.{Filings, fates, filings}
+use Rattle.ci_journal.specs.Bytes.{event_bytes, journal_bytes}
+use Rattle.ci_journal.specs.Filings.{Filings, fates, filings, out}
 use Rattle.ci_journal.specs.Folds.{is_numbered, new_notices, next_notice, notices, numbered_paths}
 use Rattle.ci_journal.specs.Served.{number_of, numbers_of, served_numbers}
 use Rattle.ci_journal.specs.Tells.{Filing, tells}
@@ -17,10 +21,11 @@ use Rattle.ci_journal.proofs.FoldsLemmas.{file_where, filings-push, new_notices-
 use Rattle.ci_book.specs.Changes.{noted}
 use Rattle.ci_holdings.specs.Core.{Core}
 use Rattle.ci_core.specs.Fixed.{KeepsFixed}
-use Rattle.ci_holdings.specs.Steps.{IsUnrefused, Makes, numbered_behind, step_in}
+use Rattle.ci_holdings.specs.Steps.{IsUnrefused, Makes, Rests, Told, numbered_behind, step_in}
 use Rattle.ci_core.proofs.CatalogLemmas.{numbered_paths-append}
 use Rattle.ci_holdings.proofs.HaltsLemmas.{alone, is_failed}
-use Rattle.ci_server.specs.Stops.{AreBelowNext, IsSound, Remains}
+use Rattle.ci_worker.specs.Filtering.{room_left}
+use Rattle.ci_worker.specs.Stops.{AreBelow, AreBelowNext, IsAt, IsSound, Remains}
 
 pub Remains-refl : (core : Core) → Remains core core
 Remains-refl core = record { limit = refl; told = record { terms = refl; most = refl }; fixed = λ fixed has. has }
@@ -33,14 +38,49 @@ Remains-trans a b c one other = record {
 }
 
 -- the event was added, and the catalogue is sound as before
-pub record IsStep (a b : Core) (e : Event) : Type 0 where
-  pub events : b.sheet.events ≡ a.sheet.events ++ e ∷ []
-  pub remains : Remains a b
-  pub sound : IsSound b
+abbrev pub IsStep : Core → Core → Event → Type 0
+IsStep a b e = IsAt a b (e ∷ [])
+
+pub IsAt-none : (old : Core) → IsSound old → IsAt old old []
+IsAt-none old sound = record { events = sym (append-nil old.sheet.events); remains = Remains-refl old; sound = sound }
+
+pub IsAt-then : (old a b : Core) (steps more : List Event) → IsAt old a steps → IsAt a b more → IsAt old b (steps ++ more)
+IsAt-then old a b steps more at next = record {
+  events = next.events ∙ ap (λ es. es ++ more) at.events ∙ append_assoc old.sheet.events steps more;
+  remains = Remains-trans old a b at.remains next.remains;
+  sound = next.sound;
+}
+
+-- nothing was added
+pub IsAt-rests : (old new : Core) → IsSound old → Rests old new → IsUnrefused old new → KeepsFixed old new → IsAt old new []
+IsAt-rests old new sound rests unrefused keeps = record {
+  events = rests.stays.events ∙ sym (append-nil old.sheet.events);
+  remains = record { limit = rests.stays.limit; told = rests.told; fixed = keeps };
+  sound = record {
+    unrefused = unrefused.after;
+    numbered = rests.numbered ∙ sound.numbered ∙ ap (numbered_paths old.terms) (sym rests.stays.events) ∙ ap (λ (t : Terms). numbered_paths t new.sheet.events) (sym rests.told.terms);
+    room = omega (arith, sound.room, ap length rests.numbered, rests.told.most);
+    below = subst (λ (t : Terms). AreBelowNext t new.sheet.events) (sym rests.told.terms) (subst (AreBelowNext old.terms) (sym rests.stays.events) sound.below);
+    plain = ap (λ (t : Terms). t.in_lists) rests.told.terms ∙ sound.plain;
+  };
+}
+
+-- events that were added take room
+pub less-behind : (old new : Core) (more : List Event) → new.sheet.events ≡ old.sheet.events ++ more → new.sheet.limit ≡ old.sheet.limit → room_left new ≤ room_left old
+less-behind old new more added limit =
+    let bytes : journal_bytes new.sheet.events ≡ journal_bytes (old.sheet.events ++ more) = ap journal_bytes added in
+    let count : journal_bytes (old.sheet.events ++ more) ≡ journal_bytes old.sheet.events + journal_bytes more = sum_by-append (λ (e : Event). event_bytes e.what) old.sheet.events more in
+    omega (arith, count, bytes, limit)
 
 -- ---- the next notice's number stays above all others
 
-greater-below : (test : Bool) (m n limit : ℕ) → m < limit → n < limit → (if test then max m n else m) < limit
+-- what is below a number is below a later one
+AreBelow-later : (low high : ℕ) → low ≤ high → (batches : List Batch) → AreBelow low batches → AreBelow high batches
+AreBelow-later low high up batches all =
+    All-weaker (λ (b : Batch). All (λ (d : List ℕ × Seq). d.1.0 < low) b.docs) (λ (b : Batch). All (λ (d : List ℕ × Seq). d.1.0 < high) b.docs)
+    (λ b below. All-weaker (λ (d : List ℕ × Seq). d.1.0 < low) (λ (d : List ℕ × Seq). d.1.0 < high) (λ d under. omega (arith, up, under)) b.docs below) batches all
+
+pub greater-below : (test : Bool) (m n limit : ℕ) → m < limit → n < limit → (if test then max m n else m) < limit
 greater-below true m n limit low high = omega (arith, low, high)
 greater-below false m n limit low high = low
 
@@ -53,13 +93,17 @@ module _ (terms : Terms) (journal : List Event) (e : Event) where
     same_new : new_notices (journal ++ e ∷ []) ≡ new_notices journal
     same_new = new_notices-push journal e ∙ ap (λ o. new_notices journal ++ option_to_list o) no_notice ∙ append-nil (new_notices journal)
 
-    same_next : next_notice terms (journal ++ e ∷ []) ≡ next_notice terms journal
+    pub same_next : next_notice terms (journal ++ e ∷ []) ≡ next_notice terms journal
     same_next = ap (λ ns. terms.beginning.next + length ns) same_new
 
-    latest-same : AreBelowNext terms journal → (path : List ℕ) → latest_number (notices terms (journal ++ e ∷ [])) path < next_notice terms (journal ++ e ∷ [])
+    pub latest-same : AreBelowNext terms journal → (path : List ℕ) → latest_number (notices terms (journal ++ e ∷ [])) path < next_notice terms (journal ++ e ∷ [])
     latest-same below path =
         subst (λ ns. latest_number ns path < next_notice terms (journal ++ e ∷ [])) (sym same_notices)
         (subst (λ n. latest_number (notices terms journal) path < n) (sym same_next) (below.latest path))
+
+    -- that leaves the batches that are out as they are
+    out-same : out (journal ++ e ∷ []) ≡ out journal → AreBelowNext terms journal → AreBelow (next_notice terms (journal ++ e ∷ [])) (out (journal ++ e ∷ []))
+    out-same same below = subst (λ n. AreBelow n (out (journal ++ e ∷ []))) (sym same_next) (subst (AreBelow (next_notice terms journal)) (sym same) below.out)
 
     -- and files nothing
     pub below-quiet : (tells e.what).filed ≡ None → AreBelowNext terms journal → AreBelowNext terms (journal ++ e ∷ [])
@@ -70,6 +114,7 @@ module _ (terms : Terms) (journal : List Event) (e : Event) where
           latest = latest-same below;
           served = λ path. subst (λ ns. served_number ns path < next_notice terms (journal ++ e ∷ [])) (sym same)
               (subst (λ n. served_number (served_numbers terms journal) path < n) (sym same_next) (below.served path));
+          out = out-same (ap (λ (f : Filings). f.out) (filings-push journal e ∙ ap (file_where (filings journal)) no_filing)) below;
         }
 
     -- or serves a path under a number below the next
@@ -86,6 +131,7 @@ module _ (terms : Terms) (journal : List Event) (e : Event) where
               (subst (λ n. served_number (served_numbers terms journal ++ (path, seq) ∷ []) other < n) (sym same_next)
               (subst (λ n. n < next_notice terms journal) (sym (served_number-push (served_numbers terms journal) path seq other))
               (greater-below (bytes_eq path other) (served_number (served_numbers terms journal) other) seq.0 (next_notice terms journal) (below.served other) low)));
+          out = out-same (ap (λ (fs : Filings). fs.out) (filings-push journal e ∙ ap (file_where (filings journal)) files)) below;
         }
 
 -- a notice has the next number
@@ -109,6 +155,8 @@ module _ (terms : Terms) (journal : List Event) (path : List ℕ) (seq : Seq) (w
             (greater-below (bytes_eq path other) (latest_number (notices terms journal) other) seq.0 (seq.0 + 1) (omega (arith, next, below.latest other)) (omega arith))));
         served = λ other. subst (λ ns. served_number ns other < next_notice terms (journal ++ e ∷ [])) (sym same)
             (subst (λ n. served_number (served_numbers terms journal) other < n) (sym next-noted) (omega (arith, next, below.served other)));
+        out = AreBelow-later (next_notice terms journal) (next_notice terms (journal ++ e ∷ [])) (omega (arith, next-noted, next)) (out (journal ++ e ∷ []))
+            (subst (AreBelow (next_notice terms journal)) (sym (ap (λ (f : Filings). f.out) (filings-push journal e))) below.out);
       }
 
 -- ---- a step that added an event
@@ -116,6 +164,29 @@ module _ (terms : Terms) (journal : List Event) (path : List ℕ) (seq : Seq) (w
 -- no step but a failed start has more events than the one that names it
 pub one_event : (core : Core) (e : Event) → IsSound core → is_failed e.what ≡ false → step_in core e ≡ e ∷ []
 one_event core e sound other = alone core.terms core.sheet.events e.by e.what sound.plain other
+
+-- events that were added, so that the paths are numbered that they note
+module _ (a b : Core) (es : List Event) (sound : IsSound a) (added : b.sheet.events ≡ a.sheet.events ++ es) (limit : b.sheet.limit ≡ a.sheet.limit) (told : Told a b)
+    (numbered_now : b.numbered ≡ numbered_behind a.numbered es) (unrefused : b.refusal ≡ None) (keeps : KeepsFixed a b) where
+  pub at-any : length b.numbered ≤ b.most → AreBelowNext a.terms (a.sheet.events ++ es) → IsAt a b es
+  at-any room below = record {
+    events = added;
+    remains = record { limit = limit; told = told; fixed = keeps };
+    sound = record {
+      unrefused = unrefused;
+      numbered = numbered_now ∙ ap (λ ns. numbered_behind ns es) sound.numbered ∙ sym (numbered_paths-append a.terms a.sheet.events es)
+          ∙ ap (numbered_paths a.terms) (sym added) ∙ ap (λ (t : Terms). numbered_paths t b.sheet.events) (sym told.terms);
+      room = room;
+      below = subst (λ (t : Terms). AreBelowNext t b.sheet.events) (sym told.terms) (subst (AreBelowNext a.terms) (sym added) below);
+      plain = ap (λ (t : Terms). t.in_lists) told.terms ∙ sound.plain;
+    };
+  }
+
+  -- where they note none
+  pub at-silent : numbered_behind a.numbered es ≡ a.numbered → AreBelowNext a.terms (a.sheet.events ++ es) → IsAt a b es
+  at-silent silent below =
+      let same : b.numbered ≡ a.numbered = numbered_now ∙ silent in
+      at-any (omega (arith, sound.room, ap length same, told.most)) below
 
 module _ (a b : Core) (e : Event) (sound : IsSound a) (other : is_failed e.what ≡ false) (makes : Makes a b e) (unrefused : IsUnrefused a b) (keeps : KeepsFixed a b) where
   added : b.sheet.events ≡ a.sheet.events ++ e ∷ []
@@ -125,19 +196,7 @@ module _ (a b : Core) (e : Event) (sound : IsSound a) (other : is_failed e.what 
   numbered_now = makes.numbered ∙ ap (numbered_behind a.numbered) (one_event a e sound other)
 
   step-any : length b.numbered ≤ b.most → AreBelowNext a.terms (a.sheet.events ++ e ∷ []) → IsStep a b e
-  step-any room below = record {
-    events = added;
-    remains = record { limit = makes.adds.limit; told = makes.told; fixed = keeps };
-    sound = record {
-      unrefused = unrefused.after;
-      within = makes.within;
-      numbered = numbered_now ∙ ap (λ ns. numbered_behind ns (e ∷ [])) sound.numbered ∙ sym (numbered_paths-append a.terms a.sheet.events (e ∷ []))
-          ∙ ap (numbered_paths a.terms) (sym added) ∙ ap (λ (t : Terms). numbered_paths t b.sheet.events) (sym makes.told.terms);
-      room = room;
-      below = subst (λ (t : Terms). AreBelowNext t b.sheet.events) (sym makes.told.terms) (subst (AreBelowNext a.terms) (sym added) below);
-      plain = ap (λ (t : Terms). t.in_lists) makes.told.terms ∙ sound.plain;
-    };
-  }
+  step-any room below = at-any a b (e ∷ []) sound added makes.adds.limit makes.told numbered_now unrefused.after keeps room below
 
   -- an event that is no notice numbers nothing
   module _ (no_notice : (tells e.what).notice ≡ None) where
@@ -145,6 +204,10 @@ module _ (a b : Core) (e : Event) (sound : IsSound a) (other : is_failed e.what 
     same_room =
         let same : b.numbered ≡ a.numbered = numbered_now ∙ rw no_notice refl in
         omega (arith, sound.room, ap length same, makes.told.most)
+
+    -- and the numbers stay below the next
+    pub step-below : AreBelowNext a.terms (a.sheet.events ++ e ∷ []) → IsStep a b e
+    step-below below = step-any same_room below
 
     -- and nothing is filed
     pub step-quiet : (tells e.what).filed ≡ None → IsStep a b e

@@ -1,0 +1,27 @@
+use Rattle.std.proofs.Common.{[], inl, refl}
+use Rattle.std.proofs.lemmas.Result.{err_from_is_err_and}
+use Rattle.ci_journal.specs.declared.reply.Reply.TheVariants as reply
+use Rattle.ci_journal.specs.declared.request.Request.TheVariants as request
+use Rattle.ci_server.specs.Turns.Front.{Begins}
+use Rattle.ci_server.proofs.DocumentLemmas.{alone-serves, alone-stops}
+use Rattle.ci_server.proofs.StepsLemmas.{steps-starve}
+use Rattle.ci_worker.proofs.StepLemmas.{IsAt-none}
+use Rattle.ci_server.proofs.serve_line.serve_unfiltered.Goals as goal
+
+pub returns-in_err-paths-clause-err : goal.returns-in_err-paths-clause-err
+returns-in_err-paths-clause-err g c =
+    let p = err_from_is_err_and c.from_residual.result c.from_residual.ensures.1 in
+    rw (p.1, p.2) (steps-starve c.args.catalog.now c.args.id request.Unfiltered _ [] (IsAt-none _ c.requires.sound) (inl ([], Begins)))
+
+pub say_reply-requires : goal.say_reply-requires
+say_reply-requires g c = c.requires.may_reply
+
+pub returns-clause-ok : goal.returns-clause-ok
+returns-clause-ok g c =
+    let paths = c.in_ok-paths.paths in
+    alone-serves _ _ c.args.id request.Unfiltered (reply.Unfiltered paths) c.requires.sound (paths, refl, c.in_ok-paths.ensures.paths) c.say_reply.result c.say_reply.ensures.ok
+
+pub returns-clause-err : goal.returns-clause-err
+returns-clause-err g c =
+    let paths = c.in_ok-paths.paths in
+    alone-stops _ _ c.args.id request.Unfiltered (reply.Unfiltered paths) c.requires.sound (paths, refl, c.in_ok-paths.ensures.paths) c.say_reply.result c.say_reply.ensures.err

@@ -1,0 +1,14 @@
+pub mod BatchLemmas
+pub mod BelowLemmas
+pub mod ErasingLemmas
+pub mod FilteringLemmas
+pub mod HoldsLemmas
+pub mod KeepsLemmas
+pub mod LinkLemmas
+pub mod StartLemmas
+pub mod StepLemmas
+pub mod StopLemmas
+pub mod TalksLemmas
+pub mod WayLemmas
+pub mod DueLemmas
+pub mod EndsLemmas
