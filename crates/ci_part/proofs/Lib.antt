@@ -1,1 +1,10 @@
+mod BeginLemmas
+mod BesideLemmas
+mod CoverLemmas
+mod GatherLemmas
+mod ListLemmas
 mod PartLemmas
+mod PostingsLemmas
+mod RangeLemmas
+mod RowsLemmas
+mod ViewLemmas

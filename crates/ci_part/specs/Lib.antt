@@ -1,2 +1,5 @@
+pub mod Covering
 pub mod Keys
 pub mod Part
+pub mod Range
+pub mod View

@@ -13,8 +13,8 @@ use ci_worker::Worker;
 use std::alloc::Global;
 
 /// Runs a session: reads the source line by line, serves each request, and prints each reply. It
-/// waits for nobody, and returns for every source: each line adds to a journal that the setting
-/// bounds.
+/// waits for its source, its sink and the answers of its daemons alone, and returns for every
+/// source: each line adds to a journal that the setting bounds.
 pub fn run_steps<S: Source + Drop, K: Sink + Drop, P: Spawner + Drop>(
     alloc: Global,
     settings: &Settings,
