@@ -1,7 +1,7 @@
 //! What is answered to calls in turn and out of turn.
 
+use crate::pipe::all_come;
 use crate::service::{NoFiles, TwoPlain, Whole};
-use crate::table::unmet;
 use std::test::Fail;
 
 #[test]
@@ -15,8 +15,7 @@ init:/b.props init:/c.bin init:/d.txt init:/x.dat => Quiet ok ok unknown ok
 init:/a.txt get_chunk get_value get_value => Quiet ok filename 0b130000000002612e747874 no_more_values
 init:/c.bin get_chunk get_chunk get_value => Quiet ok filename size 0e1300000000010000000000000002
 init:/a.txt get_chunk get_chunk get_chunk get_text get_text => Quiet ok filename size contents 081200041709726564 no_more_text";
-    assert_eq!(rt; unmet::<Whole>(rt.alloc(), ROWS)?.as_str(), "");
-    Ok(())
+    all_come::<Whole>(rt.alloc(), ROWS)
 }
 
 #[test]
@@ -31,30 +30,26 @@ init:/a.txt get_chunk get_chunk get_chunk get_value => Quiet ok filename size co
 init:/c.bin get_chunk get_chunk get_chunk get_chunk get_value get_value => Quiet ok filename size end_of_chunks end_of_chunks 0e1300000000010000000000000002 no_more_values
 init:/a.txt get_chunk init:/x.zip get_chunk get_value => Quiet ok filename unknown end_of_chunks end_of_chunks
 init:/a.txt get_chunk init:/c.bin get_value get_chunk => Quiet ok filename ok no_values filename";
-    assert_eq!(rt; unmet::<Whole>(rt.alloc(), ROWS)?.as_str(), "");
-    Ok(())
+    all_come::<Whole>(rt.alloc(), ROWS)
 }
 
 #[test]
 fn a_long_document_comes_in_pieces(rt: HostRuntime) -> Result<(), Fail> {
     const ROWS: &str = "\
 init:/long.txt get_chunk get_chunk get_chunk get_text get_text get_text => Quiet ok filename size contents 8580011200000000 a*16384 a51c1200041709 a*3616 no_more_text";
-    assert_eq!(rt; unmet::<Whole>(rt.alloc(), ROWS)?.as_str(), "");
-    Ok(())
+    all_come::<Whole>(rt.alloc(), ROWS)
 }
 
 #[test]
 fn the_first_filter_that_takes_a_document_holds_it(rt: HostRuntime) -> Result<(), Fail> {
     const ROWS: &str = "\
 init:/a.txt get_chunk get_chunk get_chunk get_text => Quiet ok filename size contents 081200041709726564";
-    assert_eq!(rt; unmet::<TwoPlain>(rt.alloc(), ROWS)?.as_str(), "");
-    Ok(())
+    all_come::<TwoPlain>(rt.alloc(), ROWS)
 }
 
 #[test]
 fn a_file_that_fails_opens_nothing(rt: HostRuntime) -> Result<(), Fail> {
     const ROWS: &str = "\
 init:/a.txt get_chunk get_text => Quiet access end_of_chunks end_of_chunks";
-    assert_eq!(rt; unmet::<NoFiles>(rt.alloc(), ROWS)?.as_str(), "");
-    Ok(())
+    all_come::<NoFiles>(rt.alloc(), ROWS)
 }

@@ -1,7 +1,7 @@
 //! How services end.
 
+use crate::pipe::all_come;
 use crate::service::{CutOff, Unread, Whole};
-use crate::table::unmet;
 use std::test::Fail;
 
 #[test]
@@ -12,8 +12,7 @@ nothing => Quiet nothing
 05 => BadFrame nothing
 get_chunk 0503 => BadFrame end_of_chunks
 get_chunk 80 => BadFrame end_of_chunks";
-    assert_eq!(rt; unmet::<Whole>(rt.alloc(), ROWS)?.as_str(), "");
-    Ok(())
+    all_come::<Whole>(rt.alloc(), ROWS)
 }
 
 #[test]
@@ -24,8 +23,7 @@ get_chunk ok get_chunk => BadFrame end_of_chunks
 get_chunk 0109 get_chunk => BadFrame end_of_chunks
 get_chunk 00 get_chunk => BadFrame end_of_chunks
 get_chunk 810002 get_chunk => BadFrame end_of_chunks";
-    assert_eq!(rt; unmet::<Whole>(rt.alloc(), ROWS)?.as_str(), "");
-    Ok(())
+    all_come::<Whole>(rt.alloc(), ROWS)
 }
 
 #[test]
@@ -36,7 +34,6 @@ init:/a.txt get_text 05 => ReadFault ok no_text";
     const CUT_OFF: &str = "\
 get_chunk => Quiet end_of_chunks
 get_chunk get_chunk get_chunk => WriteFault end_of_chunks 05108004";
-    assert_eq!(rt; unmet::<Unread>(rt.alloc(), UNREAD)?.as_str(), "");
-    assert_eq!(rt; unmet::<CutOff>(rt.alloc(), CUT_OFF)?.as_str(), "");
-    Ok(())
+    all_come::<Unread>(rt.alloc(), UNREAD)?;
+    all_come::<CutOff>(rt.alloc(), CUT_OFF)
 }
