@@ -1,15 +1,16 @@
--- How often notices were charged, as one thing more is handed in.
-use Rattle.std.proofs.Common.{◌≡◌, ◌==◌, ◌&&◌, ◌<◌, ◌≤◌, ◌+◌, ◌-◌, ◌^◌, ℕ, suc, suc-le-suc, max, nat_le, nat_lt, Bool, true, false, cond, IsTrue, List, [], ◌∷◌, ◌++◌, All, count_by, get_or, bytes_eq, refl, sym, ap, ◌∙◌, arith, if◌then◌else◌}
+-- How often notices were charged, and which were refused, as one thing more is handed in.
+use Rattle.std.proofs.Common.{◌≡◌, ◌==◌, ◌&&◌, ◌||◌, ◌<◌, ◌≤◌, ◌+◌, ◌-◌, ◌^◌, ℕ, suc, suc-le-suc, max, nat_le, nat_lt, Bool, true, false, cond, IsTrue, List, [], ◌∷◌, ◌++◌, All, count_by, get_or, bytes_eq, refl, sym, ap, ◌∙◌, arith, if◌then◌else◌}
 use Rattle.std.proofs.lemmas.Bool.{and_parts}
 use Rattle.std.proofs.lemmas.Bool.Decides.{nat_tests}
 use Rattle.std.proofs.lemmas.List.Elements.{All-append, All-cons, All-nil}
+use Rattle.std.proofs.lemmas.List.Folds.{list_any-append}
 use Rattle.std.proofs.lemmas.List.Sums.{sum_by-append, sum_by-cons}
+use Rattle.std.specs.List.{list_any}
 use Rattle.ci_base.specs.declared.numbers.Seq.{Seq}
 use Rattle.ci_change.specs.declared.notice.Notice.{Notice}
-use Rattle.ci_change.specs.declared.rows.Numbers.{Numbers}
-use Rattle.ci_change.specs.Charges.{was_reached, charges_with}
-use Rattle.ci_change.specs.Pending.{charges_of, latest_number}
-use Rattle.ci_change.specs.Register.{charged, counted}
+use Rattle.ci_change.specs.Charges.{was_reached, charges_with, refusals_with}
+use Rattle.ci_change.specs.Pending.{charges_of, is_refused, latest_number}
+use Rattle.ci_change.specs.Register.{counted}
 use Rattle.ci_change.proofs.UnservedLemmas.{latest_number-le, latest_number-lt, latest_number-push}
 
 -- a number of the type of a count is reached by the count where it is by what is counted
@@ -22,6 +23,14 @@ count-none test [] all = refl
 count-none test (x ∷ xs) all =
     let rest = count-none test xs (λ k d within. all (suc k) d (suc-le-suc within)) in
     sum_by-cons (λ y. cond (test y) 1 0) x xs ∙ ap (λ b. cond b 1 0 + count_by test xs) (all 0 x (omega arith)) ∙ omega (arith, rest)
+
+any-none : {X : Type 0} (test : X → Bool) (xs : List X) → All (λ x. test x ≡ false) xs → list_any test xs ≡ false
+any-none test [] all = refl
+any-none test (x ∷ xs) all = ap (λ b. b || list_any test xs) (all 0 x (omega arith)) ∙ any-none test xs (λ k d within. all (suc k) d (suc-le-suc within))
+
+pub or-none : (b : Bool) → (b || false) ≡ b
+or-none true = refl
+or-none false = refl
 
 reached-parts : (notices : List Notice) (path : List ℕ) (number : ℕ) → IsTrue (was_reached notices path number) → (0 < number) × (number ≤ latest_number notices path)
 reached-parts notices path number reached =
@@ -42,13 +51,19 @@ module _ (notices : List Notice) (charges : List (List ℕ × Seq)) (notice : No
   apart true equal is = is
   apart false equal is = refl
 
-  -- a notice begins anew
-  pub charges_of-newest : (path : List ℕ) → charges_of charges path notice.seq.0 ≡ 0
-  charges_of-newest path = count-none (λ c. bytes_eq c.0 path && c.1.0 == notice.seq.0) charges (λ k d within.
+  none-newest : (path : List ℕ) → All (λ c. (bytes_eq c.0 path && c.1.0 == notice.seq.0) ≡ false) charges
+  none-newest path k d within =
       let c = get_or charges k d in
       let below = below-newest c.0 c.1.0 (reached k d within) in
       let other : (c.1.0 == notice.seq.0) ≡ false = grind (arith, nat_tests, below) in
-      apart (bytes_eq c.0 path) (c.1.0 == notice.seq.0) other)
+      apart (bytes_eq c.0 path) (c.1.0 == notice.seq.0) other
+
+  -- a notice begins anew
+  pub charges_of-newest : (path : List ℕ) → charges_of charges path notice.seq.0 ≡ 0
+  charges_of-newest path = count-none (λ c. bytes_eq c.0 path && c.1.0 == notice.seq.0) charges (none-newest path)
+
+  pub is_refused-newest : (path : List ℕ) → is_refused charges path notice.seq.0 ≡ false
+  is_refused-newest path = any-none (λ c. bytes_eq c.0 path && c.1.0 == notice.seq.0) charges (none-newest path)
 
   still-if : (b : Bool) (number latest seq : ℕ) → number ≤ latest → number ≤ (if b then max latest seq else latest)
   still-if true number latest seq le = omega arith
@@ -81,6 +96,15 @@ pub charges_of-with : (notices : List Notice) (charges : List (List ℕ × Seq))
 charges_of-with notices charges path seq other number =
     if-count (was_reached notices path seq.0) _ (λ c. bytes_eq c.0 other && c.1.0 == number) charges (path, seq) refl
 
+any-if : (b : Bool) (test : List ℕ × Seq → Bool) (refusals : List (List ℕ × Seq)) (r : List ℕ × Seq) → list_any test (if b then refusals ++ r ∷ [] else refusals) ≡ (list_any test refusals || (b && test r))
+any-if true test refusals r = list_any-append test refusals (r ∷ []) ∙ ap (λ b. list_any test refusals || b) (or-none (test r))
+any-if false test refusals r = sym (or-none (list_any test refusals))
+
+-- one refusal more
+pub is_refused-with : (notices : List Notice) (refusals : List (List ℕ × Seq)) (path : List ℕ) (seq : Seq) (other : List ℕ) (number : ℕ)
+    → is_refused (refusals_with notices refusals path seq) other number ≡ (is_refused refusals other number || (was_reached notices path seq.0 && (bytes_eq path other && seq.0 == number)))
+is_refused-with notices refusals path seq other number = any-if (was_reached notices path seq.0) (λ r. bytes_eq r.0 other && r.1.0 == number) refusals (path, seq)
+
 -- each charge stays one of a number that was reached
 pub reached-with : (notices : List Notice) (charges : List (List ℕ × Seq)) (path : List ℕ) (seq : Seq) → All (λ c. IsTrue (was_reached notices c.0 c.1.0)) charges
     → All (λ c. IsTrue (was_reached notices c.0 c.1.0)) (charges_with notices charges path seq)
@@ -91,44 +115,3 @@ reached-with notices charges path seq all = by (was_reached notices path seq.0) 
         let P : List ℕ × Seq → Type 0 = λ c. IsTrue (was_reached notices c.0 c.1.0) in
         All-append P charges _ all (All-cons P (path, seq) [] is (All-nil P))
     by false is = all
-
--- ---- the numbers of a path that is charged
-
-pub charged-latest : (numbers : Numbers) (number : ℕ) → (charged numbers number).latest ≡ numbers.latest
-charged-latest numbers number = by (nat_lt 0 number && numbers.latest == number)
-  where
-    by : (b : Bool) → (if b then record numbers { attempts = counted (numbers.attempts + 1) } else numbers).latest ≡ numbers.latest
-    by true = refl
-    by false = refl
-
-pub charged-served : (numbers : Numbers) (number : ℕ) → (charged numbers number).served ≡ numbers.served
-charged-served numbers number = by (nat_lt 0 number && numbers.latest == number)
-  where
-    by : (b : Bool) → (if b then record numbers { attempts = counted (numbers.attempts + 1) } else numbers).served ≡ numbers.served
-    by true = refl
-    by false = refl
-
-pub charged-out : (numbers : Numbers) (number : ℕ) → (charged numbers number).is_out ≡ numbers.is_out
-charged-out numbers number = by (nat_lt 0 number && numbers.latest == number)
-  where
-    by : (b : Bool) → (if b then record numbers { attempts = counted (numbers.attempts + 1) } else numbers).is_out ≡ numbers.is_out
-    by true = refl
-    by false = refl
-
-attempts-by : (numbers : Numbers) (count : ℕ) (b : Bool) → numbers.attempts ≡ counted count
-    → (if b then record numbers { attempts = counted (numbers.attempts + 1) } else numbers).attempts ≡ counted (if b then count + 1 else count)
-attempts-by numbers count true is = omega arith
-attempts-by numbers count false is = is
-
-same-test : (latest number : ℕ) → ((nat_lt 0 number && nat_le number latest) && number == latest) ≡ (nat_lt 0 number && latest == number)
-same-test latest number = grind (arith, nat_tests)
-
--- they count the charge as the charges do
-pub charged-attempts : (notices : List Notice) (charges : List (List ℕ × Seq)) (path : List ℕ) (seq : Seq) (numbers : Numbers) → numbers.latest ≡ latest_number notices path
-    → numbers.attempts ≡ counted (charges_of charges path (latest_number notices path))
-    → (charged numbers seq.0).attempts ≡ counted (if was_reached notices path seq.0 && seq.0 == latest_number notices path then charges_of charges path (latest_number notices path) + 1 else charges_of charges path (latest_number notices path))
-charged-attempts notices charges path seq numbers latest count =
-    let all = charges_of charges path (latest_number notices path) in
-    ap (λ l. (if nat_lt 0 seq.0 && l == seq.0 then record numbers { attempts = counted (numbers.attempts + 1) } else numbers).attempts) latest
-    ∙ attempts-by numbers all (nat_lt 0 seq.0 && latest_number notices path == seq.0) count
-    ∙ ap (λ b. counted (if b then all + 1 else all)) (sym (same-test (latest_number notices path) seq.0))

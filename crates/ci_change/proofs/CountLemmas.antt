@@ -7,10 +7,10 @@ use Rattle.std.proofs.lemmas.Slice.Eq.{bytes_eq-Decides}
 use Rattle.ci_change.specs.declared.notice.Notice.{Notice}
 use Rattle.ci_change.specs.declared.order.Entry.{Entry}
 use Rattle.ci_change.specs.declared.rows.Numbers.{Numbers}
-use Rattle.ci_change.specs.Register.{Kept, kept_of, charged, is_held, is_spare, notice_at, with_newest, without_number, IsCounted, IsOwn, Notes, Serves, Charges, Stays}
-use Rattle.ci_change.specs.Rows.{numbers_at, Puts}
-use Rattle.ci_change.proofs.ChargeLemmas.{charged-latest, charged-out}
+use Rattle.ci_change.specs.Register.{Kept, kept_of, is_held, is_spare, notice_at, with_newest, without_number, IsCounted, IsOwn, Notes, Serves, Stays, Tries, tried}
+use Rattle.ci_change.specs.Rows.{numbers_at, sets_aside, Puts}
 use Rattle.ci_change.proofs.FilterLemmas.{filter-fused}
+use Rattle.ci_change.proofs.TrialLemmas.{tried-latest, tried-out}
 use Rattle.ci_change.proofs.UnservedLemmas.{bytes_eq-same}
 
 -- a row keeps its mark where what is put has the one that it had
@@ -22,12 +22,12 @@ Puts-out old new path put puts kept other = ap (λ (n : Numbers). n.is_out) (put
     by true same = kept ∙ ap (λ p. (numbers_at old p).is_out) ((bytes_eq-Decides path other).0 same)
     by false apart = refl
 
--- and so does each where a path is charged
-pub Charges-out : (kept new : Kept) (path : List ℕ) (number retries : ℕ) → Charges kept new path number retries → (other : List ℕ) → (numbers_at new.rows other).is_out ≡ (numbers_at kept.rows other).is_out
-Charges-out kept new path number retries charges other = ap (λ (n : Numbers). n.is_out) (charges.numbers other) ∙ by (bytes_eq path other) refl
+-- and so does each where a notice is tried
+pub Tries-out : (kept new : Kept) (path : List ℕ) (number : ℕ) (refuses : Bool) (retries : ℕ) → Tries kept new path number refuses retries → (other : List ℕ) → (numbers_at new.rows other).is_out ≡ (numbers_at kept.rows other).is_out
+Tries-out kept new path number refuses retries tries other = ap (λ (n : Numbers). n.is_out) (tries.numbers other) ∙ by (bytes_eq path other) refl
   where
-    by : (b : Bool) → bytes_eq path other ≡ b → (if b then charged (numbers_at kept.rows path) number else numbers_at kept.rows other).is_out ≡ (numbers_at kept.rows other).is_out
-    by true same = charged-out (numbers_at kept.rows path) number ∙ ap (λ p. (numbers_at kept.rows p).is_out) ((bytes_eq-Decides path other).0 same)
+    by : (b : Bool) → bytes_eq path other ≡ b → (if b then tried (numbers_at kept.rows path) number refuses else numbers_at kept.rows other).is_out ≡ (numbers_at kept.rows other).is_out
+    by true same = tried-out (numbers_at kept.rows path) number refuses ∙ ap (λ p. (numbers_at kept.rows p).is_out) ((bytes_eq-Decides path other).0 same)
     by false apart = refl
 
 module _ (path : List ℕ) where
@@ -120,13 +120,13 @@ module _ (kept new : Kept) (rows : List (List ℕ × Numbers)) (order ready : Li
       let others = ap (filter (apart path)) serves.ready ∙ others-if path (nat_le latest number) latest kept.ready own in
       Counted-changed path kept new held was is (Puts-out _ _ _ _ serves.rows refl) others counts had_ready has is_out now out made
 
-  pub Counted-charged : (path : List ℕ) (number retries : ℕ) → Charges kept new path number retries → IsOwn kept path → is_out ≡ (numbers_at kept.rows path).is_out → IsCounted new now
-  Counted-charged path number retries charges own out =
-      let put = charged (numbers_at kept.rows path) number in
-      let latest = charged-latest (numbers_at kept.rows path) number in
+  pub Counted-tried : (path : List ℕ) (number : ℕ) (refuses : Bool) (retries : ℕ) → Tries kept new path number refuses retries → IsOwn kept path → is_out ≡ (numbers_at kept.rows path).is_out → IsCounted new now
+  Counted-tried path number refuses retries tries own out =
+      let put = tried (numbers_at kept.rows path) number refuses in
+      let latest = tried-latest (numbers_at kept.rows path) number refuses in
       let still = subst (λ l. All (λ (n : Notice). (n.seq.0 == l) ≡ bytes_eq n.path path) kept.ready) (sym latest) own in
-      let others = ap (filter (apart path)) charges.ready ∙ others-if path (nat_lt 0 put.latest && nat_le retries put.attempts) put.latest kept.ready still in
-      Counted-changed path kept new held was is (Charges-out kept new path number retries charges) others counts had_ready has is_out now out made
+      let others = ap (filter (apart path)) tries.ready ∙ others-if path (nat_lt 0 put.latest && sets_aside put retries) put.latest kept.ready still in
+      Counted-changed path kept new held was is (Tries-out kept new path number refuses retries tries) others counts had_ready has is_out now out made
 
 -- where nothing changes but the rows, so many are held
 pub Counted-stays : (kept new : Kept) (held : ℕ) → Stays kept new → IsCounted kept held → IsCounted new held

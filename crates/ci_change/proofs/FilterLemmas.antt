@@ -72,3 +72,22 @@ module _ {X : Type 0} where
   pub any-filter : (test : X → Bool) (xs : List X) → list_any test xs ≡ not (length (filter test xs) == 0)
   any-filter test [] = refl
   any-filter test (x ∷ xs) = any-cond (test x) (list_any test xs) x (filter test xs) (any-filter test xs)
+
+  -- a first test that is the same on all that pass a second one
+  pub any-constant : (first test : X → Bool) (b : Bool) (xs : List X) → All (λ x. test x ≡ true → first x ≡ b) xs → list_any (λ x. first x && test x) xs ≡ (b && list_any test xs)
+  any-constant first test true [] all = refl
+  any-constant first test false [] all = refl
+  any-constant first test b (x ∷ xs) all =
+      ap (λ c. (first x && test x) || c) (any-constant first test b xs (λ k d within. all (suc k) d (suc-le-suc within))) ∙ by (test x) refl
+    where
+      both : (f t rest : Bool) → ((f && t) || (f && rest)) ≡ (f && (t || rest))
+      both true t rest = refl
+      both false t rest = refl
+
+      none : (f c rest : Bool) → ((f && false) || (c && rest)) ≡ (c && (false || rest))
+      none true c rest = refl
+      none false c rest = refl
+
+      by : (t : Bool) → test x ≡ t → ((first x && test x) || (b && list_any test xs)) ≡ (b && (test x || list_any test xs))
+      by true is = ap (λ f. (f && test x) || (b && list_any test xs)) (all 0 x (omega arith) is) ∙ both b (test x) (list_any test xs)
+      by false is = ap (λ t. (first x && t) || (b && list_any test xs)) is ∙ none (first x) b (list_any test xs) ∙ ap (λ t. b && (t || list_any test xs)) (sym is)

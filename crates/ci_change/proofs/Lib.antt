@@ -14,5 +14,6 @@ pub mod ReadyLemmas
 pub mod RegisterLemmas
 pub mod RowsLemmas
 pub mod SkipLemmas
+pub mod TrialLemmas
 pub mod UnservedLemmas
 pub mod UpToDateLemmas

@@ -11,7 +11,7 @@ use Rattle.ci_change.specs.declared.notice.Notice.{Notice}
 use Rattle.ci_change.specs.declared.rows.Numbers.{Numbers}
 use Rattle.ci_change.specs.ChangeList.{IsMarked, IsUpToDate}
 use Rattle.ci_change.specs.HandedIn.{History, numbered}
-use Rattle.ci_change.specs.Pending.{docs_of, has_path, is_change, is_changed, is_free, is_out, is_spent, is_unserved, unserved_of}
+use Rattle.ci_change.specs.Pending.{docs_of, has_path, is_change, is_changed, is_free, is_out, is_set_aside, is_unserved, unserved_of}
 use Rattle.ci_change.specs.Register.{Kept, is_spare, IsOwn, Marks}
 use Rattle.ci_change.specs.Rows.{has_row, numbers_at}
 use Rattle.ci_change.proofs.FilterLemmas.{any-filter, filter-fused, filter-swapped}
@@ -39,7 +39,7 @@ module _ (out : List Batch) (path : List ℕ) where
 
 module _ (past : History) (kept : Kept) (retries : ℕ) (up : IsUpToDate past kept retries) where
   abbrev waiting : List Notice
-  waiting = filter (λ n. not (is_spent retries past.charges n)) (unserved_of past.notices past.served)
+  waiting = filter (λ n. not (is_set_aside retries past.charges past.refusals n)) (unserved_of past.notices past.served)
 
   -- what holds of each unserved notice holds of those that wait, and of the ready ones
   All-waiting : (P : Notice → Type 0) → All (λ n. is_unserved past.notices past.served n ≡ true → P n) past.notices → All P waiting
@@ -69,11 +69,13 @@ module _ (past : History) (kept : Kept) (retries : ℕ) (up : IsUpToDate past ke
     latest = λ path. ap (λ (n : Numbers). n.latest) (marks.numbers path) ∙ up.latest path;
     served = λ path. ap (λ (n : Numbers). n.served) (marks.numbers path) ∙ up.served path;
     attempts = λ path. ap (λ (n : Numbers). n.attempts) (marks.numbers path) ∙ up.attempts path;
+    refused = λ path. ap (λ (n : Numbers). n.refused) (marks.numbers path) ∙ up.refused path;
     known = λ path told. marks.rows path (up.known path told);
     unserved = marks.unserved ∙ up.unserved;
     ready = marks.ready ∙ up.ready;
     ascending = up.ascending;
     charged = up.charged;
+    rejected = up.rejected;
   }
 
   module _ (out : List Batch) (marked : IsMarked kept out) where

@@ -1,5 +1,5 @@
 -- The ready notices, as one thing more is handed in.
-use Rattle.std.proofs.Common.{◌≡◌, ◌==◌, ◌&&◌, ◌≤◌, ◌+◌, ◌-◌, ◌^◌, ℕ, nat_le, nat_lt, Bool, true, false, not, cond, List, [], ◌∷◌, ◌++◌, filter, get_or, bytes_eq, refl, sym, ap, ◌∙◌, arith, if◌then◌else◌}
+use Rattle.std.proofs.Common.{◌≡◌, ◌==◌, ◌&&◌, ◌||◌, ◌≤◌, ◌-◌, ◌^◌, ℕ, nat_le, nat_lt, Bool, true, false, not, cond, List, [], ◌∷◌, ◌++◌, filter, get_or, bytes_eq, refl, sym, ap, ◌∙◌, arith, if◌then◌else◌}
 use Rattle.std.proofs.lemmas.Bool.{and_parts}
 use Rattle.std.proofs.lemmas.Bool.Decides.{nat_tests}
 use Rattle.std.proofs.lemmas.List.Elements.{filter-append}
@@ -8,14 +8,14 @@ use Rattle.ci_base.specs.declared.numbers.Seq.{Seq}
 use Rattle.ci_change.specs.declared.notice.Notice.{Notice}
 use Rattle.ci_change.specs.declared.rows.Numbers.{Numbers}
 use Rattle.ci_change.specs.ChangeList.{IsUpToDate}
-use Rattle.ci_change.specs.Charges.{was_reached, charges_with}
 use Rattle.ci_change.specs.HandedIn.{History}
-use Rattle.ci_change.specs.Pending.{charges_of, is_change, is_spent, is_unserved, latest_number, unserved_of}
-use Rattle.ci_change.specs.Register.{Kept, charged, counted, with_newest, without_number, without_served, without_tried}
-use Rattle.ci_change.specs.Rows.{numbers_at}
-use Rattle.ci_change.proofs.ChargeLemmas.{le-counted, charges_of-with, charged-attempts, charged-latest}
+use Rattle.ci_change.specs.Pending.{charges_of, is_change, is_refused, is_set_aside, is_unserved, latest_number, unserved_of}
+use Rattle.ci_change.specs.Register.{Kept, with_newest, without_given_up, without_number, without_served}
+use Rattle.ci_change.specs.Rows.{numbers_at, sets_aside}
+use Rattle.ci_change.proofs.ChargeLemmas.{le-counted}
 use Rattle.ci_change.proofs.FilterLemmas.{filter-agreed, filter-fused, filter-swapped}
-use Rattle.ci_change.proofs.UnservedLemmas.{bytes_eq-flip, bytes_eq-same, unserved-above, unserved-has_latest, unserved-is_latest}
+use Rattle.ci_change.proofs.TrialLemmas.{IsTrial}
+use Rattle.ci_change.proofs.UnservedLemmas.{bytes_eq-flip, unserved-above, unserved-has_latest, unserved-is_latest}
 
 -- ---- two filters of what a call leaves unserved
 
@@ -49,60 +49,44 @@ module _ (free waits : Notice → Bool) where
       by true = without-inside latest notices
       by false = refl
 
--- ---- one charge more
+-- ---- a notice was tried in vain
 
-module _ (past : History) (kept : Kept) (retries : ℕ) (up : IsUpToDate past kept retries) (small : retries ≤ 2 ^ 32 - 1) (path : List ℕ) (seq : Seq) where
-  abbrev all_charges : List (List ℕ × Seq)
-  all_charges = charges_with past.notices past.charges path seq
-
+module _ (past : History) (kept : Kept) (retries : ℕ) (up : IsUpToDate past kept retries) (small : retries ≤ 2 ^ 32 - 1) (charges refusals : List (List ℕ × Seq)) (path : List ℕ) (put : Numbers)
+    (trial : IsTrial past charges refusals path put) (same_latest : put.latest ≡ (numbers_at kept.rows path).latest) where
   abbrev latest : ℕ
   latest = latest_number past.notices path
-
-  abbrev put : Numbers
-  put = charged (numbers_at kept.rows path) seq.0
 
   abbrev left : List Notice
   left = unserved_of past.notices past.served
 
-  -- the row of the path counts as the charges do
-  row-counts : put.attempts ≡ counted (charges_of all_charges path latest)
-  row-counts =
-      let count = charges_of past.charges path latest in
-      charged-attempts past.notices past.charges path seq (numbers_at kept.rows path) (up.latest path) (up.attempts path)
-      ∙ ap (λ b. counted (if was_reached past.notices path seq.0 && (b && seq.0 == latest) then count + 1 else count)) (sym (bytes_eq-same path))
-      ∙ ap counted (sym (charges_of-with past.notices past.charges path seq path latest))
+  abbrev was_aside : Notice → Bool
+  was_aside = is_set_aside retries past.charges past.refusals
 
-  spent-here : (n : Notice) → is_unserved past.notices past.served n ≡ true → n.path ≡ path → is_spent retries all_charges n ≡ nat_le retries put.attempts
-  spent-here n unserved same =
+  abbrev is_aside : Notice → Bool
+  is_aside = is_set_aside retries charges refusals
+
+  abbrev gives_up : Bool
+  gives_up = nat_lt 0 put.latest && sets_aside put retries
+
+  aside-here : (n : Notice) → is_unserved past.notices past.served n ≡ true → n.path ≡ path → is_aside n ≡ sets_aside put retries
+  aside-here n unserved same =
       let number : n.seq.0 ≡ latest = unserved-is_latest past.notices past.served n unserved ∙ ap (latest_number past.notices) same in
-      ap (λ k. nat_le retries (charges_of all_charges n.path k)) number ∙ ap (λ p. nat_le retries (charges_of all_charges p latest)) same
-      ∙ sym (le-counted retries (charges_of all_charges path latest) small) ∙ ap (nat_le retries) (sym row-counts)
+      ap (λ k. is_refused refusals n.path k || nat_le retries (charges_of charges n.path k)) number
+      ∙ ap (λ p. is_refused refusals p latest || nat_le retries (charges_of charges p latest)) same
+      ∙ ap (λ b. is_refused refusals path latest || b) (sym (le-counted retries (charges_of charges path latest) small) ∙ ap (nat_le retries) (sym trial.attempts))
+      ∙ ap (λ b. b || nat_le retries put.attempts) (sym trial.refused)
 
-  same-count : (a : Bool) (more old : ℕ) → (if a && false then more else old) ≡ old
-  same-count true more old = refl
-  same-count false more old = refl
+  aside-elsewhere : (n : Notice) → bytes_eq path n.path ≡ false → is_aside n ≡ was_aside n
+  aside-elsewhere n other =
+      ap (λ b. b || nat_le retries (charges_of charges n.path n.seq.0)) (trial.refusals_elsewhere n.path n.seq.0 other)
+      ∙ ap (λ count. is_refused past.refusals n.path n.seq.0 || nat_le retries count) (trial.charges_elsewhere n.path n.seq.0 other)
 
-  spent-elsewhere : (n : Notice) → bytes_eq path n.path ≡ false → is_spent retries all_charges n ≡ is_spent retries past.charges n
-  spent-elsewhere n other =
-      let count = charges_of past.charges n.path n.seq.0 in
-      let reached = was_reached past.notices path seq.0 in
-      ap (nat_le retries) (charges_of-with past.notices past.charges path seq n.path n.seq.0
-      ∙ ap (λ b. if reached && (b && seq.0 == n.seq.0) then count + 1 else count) other ∙ same-count reached (count + 1) count)
-
-  more-spent : (b : Bool) (count : ℕ) → nat_le retries (if b then count + 1 else count) ≡ false → nat_le retries count ≡ false
-  more-spent true count fails = grind (arith, nat_tests, fails)
-  more-spent false count fails = fails
-
-  unspent-before : (n : Notice) → is_spent retries all_charges n ≡ false → is_spent retries past.charges n ≡ false
-  unspent-before n fails =
-      more-spent _ (charges_of past.charges n.path n.seq.0) (sym (ap (nat_le retries) (charges_of-with past.notices past.charges path seq n.path n.seq.0)) ∙ fails)
-
-  cases : (n : Notice) (b : Bool) → bytes_eq path n.path ≡ b → is_unserved past.notices past.served n ≡ true → (c : Bool) → (nat_lt 0 put.latest && nat_le retries put.attempts) ≡ c
-      → (not (is_spent retries all_charges n) && is_change n) ≡ (if c then (not (is_spent retries past.charges n) && is_change n) && not b else not (is_spent retries past.charges n) && is_change n)
+  cases : (n : Notice) (b : Bool) → bytes_eq path n.path ≡ b → is_unserved past.notices past.served n ≡ true → (c : Bool) → gives_up ≡ c
+      → (not (is_aside n) && is_change n) ≡ (if c then (not (was_aside n) && is_change n) && not b else not (was_aside n) && is_change n)
   cases n true same unserved true is =
-      let tried = and_parts (nat_lt 0 put.latest) (nat_le retries put.attempts) is in
-      let spent = spent-here n unserved (sym ((bytes_eq-Decides path n.path).0 same)) ∙ tried.1 in
-      ap (λ s. not s && is_change n) spent ∙ no-more (not (is_spent retries past.charges n) && is_change n)
+      let parts = and_parts (nat_lt 0 put.latest) (sets_aside put retries) is in
+      let aside = aside-here n unserved (sym ((bytes_eq-Decides path n.path).0 same)) ∙ parts.1 in
+      ap (λ s. not s && is_change n) aside ∙ no-more (not (was_aside n) && is_change n)
     where
       no-more : (b : Bool) → false ≡ (b && false)
       no-more true = refl
@@ -110,38 +94,38 @@ module _ (past : History) (kept : Kept) (retries : ℕ) (up : IsUpToDate past ke
   cases n true same unserved false is =
       let at = sym ((bytes_eq-Decides path n.path).0 same) in
       let some = unserved-above past.notices past.served n unserved in
-      let number : n.seq.0 ≡ put.latest = unserved-is_latest past.notices past.served n unserved ∙ ap (latest_number past.notices) at ∙ sym (up.latest path) ∙ sym (charged-latest (numbers_at kept.rows path) seq.0) in
+      let number : n.seq.0 ≡ put.latest = unserved-is_latest past.notices past.served n unserved ∙ ap (latest_number past.notices) at ∙ sym (up.latest path) ∙ sym same_latest in
       let positive : nat_lt 0 put.latest ≡ true = grind (arith, nat_tests, some, number) in
-      let untried : nat_le retries put.attempts ≡ false = ap (λ b. b && nat_le retries put.attempts) (sym positive) ∙ is in
-      let unspent = spent-here n unserved at ∙ untried in
-      ap (λ s. not s && is_change n) (unspent ∙ sym (unspent-before n unspent))
-  cases n false other unserved true is = ap (λ s. not s && is_change n) (spent-elsewhere n other) ∙ as-is (not (is_spent retries past.charges n) && is_change n)
+      let untried : sets_aside put retries ≡ false = ap (λ b. b && sets_aside put retries) (sym positive) ∙ is in
+      let still = aside-here n unserved at ∙ untried in
+      ap (λ s. not s && is_change n) (still ∙ sym (trial.grows retries n still))
+  cases n false other unserved true is = ap (λ s. not s && is_change n) (aside-elsewhere n other) ∙ as-is (not (was_aside n) && is_change n)
     where
       as-is : (b : Bool) → b ≡ (b && true)
       as-is true = refl
       as-is false = refl
-  cases n false other unserved false is = ap (λ s. not s && is_change n) (spent-elsewhere n other)
+  cases n false other unserved false is = ap (λ s. not s && is_change n) (aside-elsewhere n other)
 
   abbrev before : Notice → Bool
-  before n = not (is_spent retries past.charges n) && is_change n
+  before n = not (was_aside n) && is_change n
 
   abbrev after : Notice → Bool
-  after n = not (is_spent retries all_charges n) && is_change n
+  after n = not (is_aside n) && is_change n
 
   apart-number : (n : Notice) (b : Bool) → (n.seq.0 == latest) ≡ bytes_eq n.path path → bytes_eq path n.path ≡ b → not b ≡ not (n.seq.0 == put.latest)
   apart-number n b has same =
-      let is_latest : put.latest ≡ latest = charged-latest (numbers_at kept.rows path) seq.0 ∙ up.latest path in
+      let is_latest : put.latest ≡ latest = same_latest ∙ up.latest path in
       ap not (sym same ∙ bytes_eq-flip path n.path ∙ sym has) ∙ ap (λ l. not (n.seq.0 == l)) (sym is_latest)
 
-  -- the notice that is charged isn't ready any more when it was tried so often
-  pub ready-charged : filter is_change (filter (λ n. not (is_spent retries all_charges n)) left) ≡ without_tried kept.ready put retries
-  ready-charged =
-      sym (filter-fused after (λ n. not (is_spent retries all_charges n)) is_change left (λ k d within. refl)) ∙ by (nat_lt 0 put.latest && nat_le retries put.attempts) refl
+  -- the notice isn't ready any more when it is set aside
+  pub ready-tried : filter is_change (filter (λ n. not (is_aside n)) left) ≡ without_given_up kept.ready put retries
+  ready-tried =
+      sym (filter-fused after (λ n. not (is_aside n)) is_change left (λ k d within. refl)) ∙ by gives_up refl
     where
       was : kept.ready ≡ filter before left
-      was = up.ready ∙ sym (filter-fused before (λ n. not (is_spent retries past.charges n)) is_change left (λ k d within. refl))
+      was = up.ready ∙ sym (filter-fused before (λ n. not (was_aside n)) is_change left (λ k d within. refl))
 
-      by : (c : Bool) → (nat_lt 0 put.latest && nat_le retries put.attempts) ≡ c → filter after left ≡ (if c then without_number put.latest kept.ready else kept.ready)
+      by : (c : Bool) → gives_up ≡ c → filter after left ≡ (if c then without_number put.latest kept.ready else kept.ready)
       by true is =
           filter-agreed (is_unserved past.notices past.served) after (λ n. before n && not (n.seq.0 == put.latest)) past.notices
           (λ k d within unserved. let n = get_or past.notices k d in cases n (bytes_eq path n.path) refl unserved true is

@@ -9,8 +9,8 @@ use Rattle.ci_change.specs.declared.notice.Notice.{Notice}
 use Rattle.ci_change.specs.declared.order.Entry.{Entry}
 use Rattle.ci_change.specs.declared.rows.Numbers.{Numbers}
 use Rattle.ci_change.specs.Order.{without_entry, given_up, renewed, retired}
-use Rattle.ci_change.specs.Register.{Kept, kept_of, notice_at, without_number, with_newest, without_served, without_tried, charged, Notes, Serves, Charges, Stays}
-use Rattle.ci_change.specs.Rows.{numbers_at, KeepsRows, Puts}
+use Rattle.ci_change.specs.Register.{Kept, kept_of, notice_at, without_number, with_newest, without_given_up, without_served, tried, Notes, Serves, Stays, Tries}
+use Rattle.ci_change.specs.Rows.{numbers_at, sets_aside, KeepsRows, Puts}
 
 -- ---- the notices of an order
 
@@ -58,8 +58,8 @@ map-retired rows order latest served = by (nat_le latest served)
     by false = refl
 
 map-given_up : (rows : List (List ℕ × Numbers)) (order : List (ℕ × Entry)) (numbers : Numbers) (retries : ℕ)
-    → map (notice_at rows) (given_up order numbers retries) ≡ without_tried (map (notice_at rows) order) numbers retries
-map-given_up rows order numbers retries = by (nat_lt 0 numbers.latest && nat_le retries numbers.attempts)
+    → map (notice_at rows) (given_up order numbers retries) ≡ without_given_up (map (notice_at rows) order) numbers retries
+map-given_up rows order numbers retries = by (nat_lt 0 numbers.latest && sets_aside numbers retries)
   where
     by : (b : Bool) → map (notice_at rows) (if b then without_entry numbers.latest order else order) ≡ (if b then without_number numbers.latest (map (notice_at rows) order) else map (notice_at rows) order)
     by true = map-without_entry rows numbers.latest order
@@ -106,7 +106,7 @@ pub places-given_up : (old new : ℕ) (order after : List (ℕ × Entry)) (numbe
     → after ≡ given_up order numbers retries → All (λ e. e.1.place < new) after
 places-given_up old new order after numbers retries places grows is =
     let P : ℕ × Entry → Type 0 = λ e. e.1.place < new in
-    subst (All P) (sym is) (by (nat_lt 0 numbers.latest && nat_le retries numbers.attempts) (places-mono old new order grows places))
+    subst (All P) (sym is) (by (nat_lt 0 numbers.latest && sets_aside numbers retries) (places-mono old new order grows places))
   where
     by : (b : Bool) → All (λ e. e.1.place < new) order → All (λ (e : ℕ × Entry). e.1.place < new) (if b then without_entry numbers.latest order else order)
     by true all = All-filter (λ e. not (e.0 == numbers.latest)) (λ (e : ℕ × Entry). e.1.place < new) order all
@@ -163,10 +163,10 @@ module _ (kept : Kept) (old mid new : List (List ℕ × Numbers)) (order ready a
       ∙ ap (λ n. with_newest before n notice joins) numbers_were
 
   pub Notes-renewed : (newest : ℕ × Entry) (joins : Bool) → slice_get (keys_of mid) newest.1.place ≡ Some path → after ≡ renewed order numbers newest true → after_ready ≡ renewed ready numbers newest joins
-      → Puts mid new path (record { latest = newest.0; served = numbers.served; attempts = 0; is_out = numbers.is_out })
+      → Puts mid new path (record { latest = newest.0; served = numbers.served; attempts = 0; refused = false; is_out = numbers.is_out })
       → Notes kept (kept_of new after after_ready) (record { path = path; seq = record { 0 = newest.0 }; what = newest.1.what }) joins
   Notes-renewed newest joins at made made_ready puts = record {
-    rows = Puts-changed (λ n. record n { latest = newest.0; attempts = 0 }) _ refl puts;
+    rows = Puts-changed (λ n. record n { latest = newest.0; attempts = 0; refused = false }) _ refl puts;
     unserved = notices-renewed order after kept.unserved newest true at unserved_were made;
     ready = notices-renewed ready after_ready kept.ready newest joins at ready_were made_ready;
   }
@@ -178,28 +178,28 @@ module _ (kept : Kept) (old mid new : List (List ℕ × Numbers)) (order ready a
       ∙ ap (λ ns. without_served ns numbers.latest served) were ∙ ap (λ (n : Numbers). without_served before n.latest served) numbers_were
 
   pub Serves-retired : (put served : ℕ) → put ≡ max numbers.served served → after ≡ retired order numbers.latest served → after_ready ≡ retired ready numbers.latest served
-      → Puts mid new path (record { latest = numbers.latest; served = put; attempts = numbers.attempts; is_out = numbers.is_out }) → Serves kept (kept_of new after after_ready) path served
+      → Puts mid new path (record { latest = numbers.latest; served = put; attempts = numbers.attempts; refused = numbers.refused; is_out = numbers.is_out }) → Serves kept (kept_of new after after_ready) path served
   Serves-retired put served most made made_ready puts = record {
     rows = Puts-changed (λ n. record n { served = max n.served served }) _ (ap (λ (s : ℕ). record numbers { served = s }) most) puts;
     unserved = notices-retired order after kept.unserved served unserved_were made;
     ready = notices-retired ready after_ready kept.ready served ready_were made_ready;
   }
 
--- a path was charged, whose numbers were read and put again
-pub Charges-put : (kept : Kept) (old new : List (List ℕ × Numbers)) (order ready after_ready : List (ℕ × Entry)) (path : List ℕ) (numbers put : Numbers) (number retries : ℕ)
-    → kept_of old order ready ≡ kept → numbers ≡ numbers_at old path → keys_of new ≡ keys_of old → put ≡ charged numbers number → Puts old new path put
-    → after_ready ≡ given_up ready put retries → Charges kept (kept_of new order after_ready) path number retries
-Charges-put kept old new order ready after_ready path numbers put number retries is read same made puts given =
-    let is_put = made ∙ ap (λ n. charged n number) read in
-    let all : Charges (kept_of old order ready) (kept_of new order after_ready) path number retries = record {
+-- a notice of a path was tried, whose numbers were read and put again
+pub Tries-put : (kept : Kept) (old new : List (List ℕ × Numbers)) (order ready after_ready : List (ℕ × Entry)) (path : List ℕ) (numbers put : Numbers) (number : ℕ) (refuses : Bool) (retries : ℕ)
+    → kept_of old order ready ≡ kept → numbers ≡ numbers_at old path → keys_of new ≡ keys_of old → put ≡ tried numbers number refuses → Puts old new path put
+    → after_ready ≡ given_up ready put retries → Tries kept (kept_of new order after_ready) path number refuses retries
+Tries-put kept old new order ready after_ready path numbers put number refuses retries is read same made puts given =
+    let is_put = made ∙ ap (λ n. tried n number refuses) read in
+    let all : Tries (kept_of old order ready) (kept_of new order after_ready) path number refuses retries = record {
       numbers = λ other. puts.numbers other ∙ ap (λ n. if bytes_eq path other then n else numbers_at old other) is_put;
       rows = λ other there. puts.rows other (or-right (bytes_eq path other) _ there);
       unserved = map-same_keys old new order same;
       ready =
           map-same_keys old new after_ready same ∙ ap (map (notice_at old)) given ∙ map-given_up old ready put retries
-          ∙ ap (λ n. without_tried (map (notice_at old) ready) n retries) is_put;
+          ∙ ap (λ n. without_given_up (map (notice_at old) ready) n retries) is_put;
     } in
-    subst (λ (k : Kept). Charges k (kept_of new order after_ready) path number retries) is all
+    subst (λ (k : Kept). Tries k (kept_of new order after_ready) path number refuses retries) is all
   where
     or-right : (a b : Bool) → IsTrue b → IsTrue (a || b)
     or-right true b there = refl

@@ -13,9 +13,9 @@ use Rattle.ci_change.specs.declared.notice.Notice.{Notice}
 use Rattle.ci_change.specs.declared.order.Entry.{Entry}
 use Rattle.ci_change.specs.declared.rows.Numbers.{Numbers}
 use Rattle.ci_change.specs.Pending.{with_number}
-use Rattle.ci_change.specs.Register.{Kept, kept_of, is_held, is_spare, notice_at, without_number, IsHeldBelow, IsOwn, Marks, Notes, Serves, Charges, Stays}
+use Rattle.ci_change.specs.Register.{Kept, kept_of, is_held, is_spare, notice_at, without_number, IsHeldBelow, IsOwn, Marks, Notes, Serves, Tries, Stays}
 use Rattle.ci_change.specs.Rows.{numbers_at}
-use Rattle.ci_change.proofs.CountLemmas.{Charges-out, Puts-out}
+use Rattle.ci_change.proofs.CountLemmas.{Tries-out, Puts-out}
 use Rattle.ci_change.proofs.FilterLemmas.{any-filter}
 use Rattle.ci_change.proofs.FindLemmas.{one_if}
 use Rattle.ci_change.proofs.UnservedLemmas.{bytes_eq-flip}
@@ -116,10 +116,10 @@ module _ (kept new : Kept) (from now : ℕ) (le : now ≤ from) (below : IsHeldB
       let latest = (numbers_at kept.rows path).latest in
       subst (All (P marks)) (sym serves.ready) (still-if marks (nat_le latest number) latest)
 
-  pub HeldBelow-charged : (path : List ℕ) (number retries : ℕ) → Charges kept new path number retries → IsHeldBelow new now
-  HeldBelow-charged path number retries charges =
-      let marks = Charges-out kept new path number retries charges in
-      subst (All (P marks)) (sym charges.ready) (still-if marks _ _)
+  pub HeldBelow-tried : (path : List ℕ) (number : ℕ) (refuses : Bool) (retries : ℕ) → Tries kept new path number refuses retries → IsHeldBelow new now
+  HeldBelow-tried path number refuses retries tries =
+      let marks = Tries-out kept new path number refuses retries tries in
+      subst (All (P marks)) (sym tries.ready) (still-if marks _ _)
 
   pub HeldBelow-stays : Stays kept new → IsHeldBelow new now
   HeldBelow-stays stays =

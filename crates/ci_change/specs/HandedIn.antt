@@ -10,11 +10,12 @@ use Rattle.ci_change.specs.declared.notice.What.{What}
 abbrev pub notice_of : List ℕ → Seq → What → Notice
 notice_of path seq what = record { path = path; seq = seq; what = what }
 
--- the notices, the served numbers of paths and the charges, each in the order in which they came
+-- the notices, the served numbers of paths, the charges and the refusals, each in the order in which they came
 pub record History : Type 0 where
   pub notices : List Notice
   pub served : List (List ℕ × Seq)
   pub charges : List (List ℕ × Seq)
+  pub refusals : List (List ℕ × Seq)
 
 -- such a history, and in how many steps it came
 pub record Remembered : Type 0 where
@@ -26,16 +27,23 @@ pub record HandedIn : Type 0 where
   pub notices : List Notice
   pub served : List (List ℕ × Seq)
   pub charges : List (List ℕ × Seq)
+  pub refusals : List (List ℕ × Seq)
   pub out : List Batch
   pub retries : ℕ
 
 abbrev pub no_history : History
-no_history = record { notices = []; served = []; charges = [] }
+no_history = record { notices = []; served = []; charges = []; refusals = [] }
 
 -- nothing yet
 abbrev pub nothing : ℕ → HandedIn
-nothing retries =
-    record { notices = []; served = []; charges = []; out = []; retries = retries }
+nothing retries = record {
+  notices = [];
+  served = [];
+  charges = [];
+  refusals = [];
+  out = [];
+  retries = retries;
+}
 
 -- one notice more
 abbrev pub with_notice : HandedIn → Notice → HandedIn

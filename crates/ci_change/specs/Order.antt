@@ -5,6 +5,7 @@ use Rattle.std.specs.Map.{keys_of}
 use Rattle.std.specs.Ordering.{nat_cmp}
 use Rattle.ci_change.specs.declared.order.Entry.{Entry}
 use Rattle.ci_change.specs.declared.rows.Numbers.{Numbers}
+use Rattle.ci_change.specs.Rows.{sets_aside}
 
 -- the entries without the one at a number
 abbrev pub without_entry : ℕ → List (ℕ × Entry) → List (ℕ × Entry)
@@ -16,10 +17,10 @@ renewed order numbers newest joins =
     without_entry numbers.latest order
     ++ (if joins && nat_lt numbers.served newest.0 then newest ∷ [] else [])
 
--- the entries when the notice with a path's latest number was tried so often
+-- the entries when the notice with a path's latest number is set aside
 abbrev pub given_up : List (ℕ × Entry) → Numbers → ℕ → List (ℕ × Entry)
 given_up order numbers retries =
-    if nat_lt 0 numbers.latest && nat_le retries numbers.attempts
+    if nat_lt 0 numbers.latest && sets_aside numbers retries
     then without_entry numbers.latest order
     else order
 

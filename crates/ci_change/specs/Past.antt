@@ -1,9 +1,9 @@
 -- What `Steps` remembers.
 use Rattle.std.specs.Prelude.{[], ◌∷◌, ◌++◌, ◌+◌}
-use Rattle.ci_change.specs.Charges.{charges_with}
+use Rattle.ci_change.specs.Charges.{charges_with, refusals_with}
 use Rattle.ci_change.specs.HandedIn.{Remembered, no_history, notice_of}
 use Rattle.ci_change.specs.declared.steps.Step.{Step}
-use Rattle.ci_change.specs.declared.steps.Step.TheVariants.{Start, Noted, Served, Charged, Same}
+use Rattle.ci_change.specs.declared.steps.Step.TheVariants.{Start, Noted, Served, Charged, Refused, Same}
 
 -- what was handed in before the last step, and in it
 abbrev pub handed_in : Step → Remembered
@@ -24,6 +24,12 @@ handed_in (Charged before path seq) =
     let past = before.value.history in
     record {
       history = record past { charges = charges_with past.notices past.charges path.value seq };
+      steps = before.value.steps + 1;
+    }
+handed_in (Refused before path seq) =
+    let past = before.value.history in
+    record {
+      history = record past { refusals = refusals_with past.notices past.refusals path.value seq };
       steps = before.value.steps + 1;
     }
 handed_in (Same before) =

@@ -1,5 +1,5 @@
 -- Which notices are pending, which are set aside as unfiltered, and which a batch may take.
-use Rattle.std.specs.Prelude.{◌==◌, ℕ, Bool, true, false, ◌&&◌, not, max, nat_le, nat_lt, List, [], ◌∷◌, bytes_eq, count_by, filter, map, IsPermutation}
+use Rattle.std.specs.Prelude.{◌==◌, ℕ, Bool, true, false, ◌&&◌, ◌||◌, not, max, nat_le, nat_lt, List, [], ◌∷◌, bytes_eq, count_by, filter, map, IsPermutation}
 use Rattle.std.specs.Cmp.Lexicographic.{slice_cmp}
 use Rattle.std.specs.List.{list_any}
 use Rattle.std.specs.List.Sorted.{IsSortedByKey}
@@ -50,13 +50,24 @@ attempts charges n = charges_of charges n.path n.seq.0
 abbrev pub is_spent : ℕ → List (List ℕ × Seq) → Notice → Bool
 is_spent retries charges n = nat_le retries (attempts charges n)
 
+-- some refusal names a path and a number
+abbrev pub is_refused : List (List ℕ × Seq) → List ℕ → ℕ → Bool
+is_refused refusals path number = list_any (λ r. bytes_eq r.0 path && r.1.0 == number) refusals
+
+-- its filter refused it, or it failed as often as it is to be tried
+abbrev pub is_set_aside : ℕ → List (List ℕ × Seq) → List (List ℕ × Seq) → Notice → Bool
+is_set_aside retries charges refusals n =
+    is_refused refusals n.path n.seq.0 || is_spent retries charges n
+
 -- the unserved notices that are still to be tried, in the order in which they came
 abbrev pub pending : HandedIn → List Notice
-pending handed = filter (λ n. not (is_spent handed.retries handed.charges n)) (unserved handed)
+pending handed =
+    filter (λ n. not (is_set_aside handed.retries handed.charges handed.refusals n)) (unserved handed)
 
--- the unserved notices that were tried in vain, and are set aside
+-- the unserved notices that are to be tried no more, and are set aside
 abbrev pub unfiltered : HandedIn → List Notice
-unfiltered handed = filter (is_spent handed.retries handed.charges) (unserved handed)
+unfiltered handed =
+    filter (is_set_aside handed.retries handed.charges handed.refusals) (unserved handed)
 
 -- the notices with a number
 abbrev pub with_number : ℕ → List Notice → List Notice
@@ -65,6 +76,10 @@ with_number number notices = filter (λ n. n.seq.0 == number) notices
 -- the notices of a path
 abbrev pub with_path : List ℕ → List Notice → List Notice
 with_path path notices = filter (λ n. bytes_eq n.path path) notices
+
+-- one of the notices is of the path
+abbrev pub has_notice_of : List ℕ → List Notice → Bool
+has_notice_of path notices = list_any (λ n. bytes_eq n.path path) notices
 
 -- notices by their numbers and kinds
 abbrev pub kinds : List Notice → List (Seq × What)

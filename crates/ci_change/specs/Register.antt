@@ -1,10 +1,10 @@
 -- What a register shows: the rows of paths, and in order the unserved notices and the ready ones.
-use Rattle.std.specs.Prelude.{◌≡◌, ◌==◌, ◌&&◌, ◌<◌, ◌++◌, ◌+◌, ◌-◌, ◌^◌, ℕ, Bool, true, max, min, not, nat_le, nat_lt, IsTrue, List, [], ◌∷◌, All, bytes_eq, filter, length, map, if◌then◌else◌}
+use Rattle.std.specs.Prelude.{◌≡◌, ◌==◌, ◌&&◌, ◌||◌, ◌<◌, ◌++◌, ◌+◌, ◌-◌, ◌^◌, ℕ, Bool, true, false, max, min, not, nat_le, nat_lt, IsTrue, List, [], ◌∷◌, All, bytes_eq, filter, length, map, if◌then◌else◌}
 use Rattle.ci_change.specs.declared.notice.Notice.{Notice}
 use Rattle.ci_change.specs.declared.order.Entry.{Entry}
 use Rattle.ci_change.specs.declared.rows.Numbers.{Numbers}
 use Rattle.ci_change.specs.HandedIn.{notice_of}
-use Rattle.ci_change.specs.Rows.{has_row, numbers_at, path_in, Puts}
+use Rattle.ci_change.specs.Rows.{has_row, numbers_at, path_in, sets_aside, Puts}
 
 pub record Kept : Type 0 where
   pub rows : List (List ℕ × Numbers)
@@ -43,27 +43,32 @@ without_served notices latest served =
 abbrev pub counted : ℕ → ℕ
 counted count = min count (2 ^ 32 - 1)
 
--- a path's numbers when its latest notice was tried once more, where it has this number
-abbrev pub charged : Numbers → ℕ → Numbers
-charged numbers number =
-    if nat_lt 0 number && numbers.latest == number
-    then record numbers { attempts = counted (numbers.attempts + 1) }
-    else numbers
+-- a path's numbers when its latest notice was refused by its filter, or was tried and failed
+abbrev pub tried_once : Numbers → Bool → Numbers
+tried_once numbers refuses = record numbers {
+  attempts = if refuses then numbers.attempts else counted (numbers.attempts + 1);
+  refused = numbers.refused || refuses;
+}
 
--- the notices when the one with a path's latest number was tried so often
-abbrev pub without_tried : List Notice → Numbers → ℕ → List Notice
-without_tried notices numbers retries =
-    if nat_lt 0 numbers.latest && nat_le retries numbers.attempts
+-- a path's numbers when the notice with this number was tried in vain, which may be an older one
+abbrev pub tried : Numbers → ℕ → Bool → Numbers
+tried numbers number refuses =
+    if nat_lt 0 number && numbers.latest == number then tried_once numbers refuses else numbers
+
+-- the notices when the one with a path's latest number is set aside
+abbrev pub without_given_up : List Notice → Numbers → ℕ → List Notice
+without_given_up notices numbers retries =
+    if nat_lt 0 numbers.latest && sets_aside numbers retries
     then without_number numbers.latest notices
     else notices
 
--- the latest notice of the path was tried as often as it is to be
-abbrev pub is_tried : List (List ℕ × Numbers) → ℕ → Notice → Bool
-is_tried rows retries n = nat_le retries (numbers_at rows n.path).attempts
+-- the latest notice of the path is set aside
+abbrev pub is_given_up : List (List ℕ × Numbers) → ℕ → Notice → Bool
+is_given_up rows retries n = sets_aside (numbers_at rows n.path) retries
 
 -- it is still to be tried
 abbrev pub waits : List (List ℕ × Numbers) → ℕ → Notice → Bool
-waits rows retries n = not (is_tried rows retries n)
+waits rows retries n = not (is_given_up rows retries n)
 
 -- a notice is held where its path is in a batch that is out
 abbrev pub is_held : List (List ℕ × Numbers) → Notice → Bool
@@ -90,7 +95,7 @@ IsOwn kept path =
 -- the latest notice of its path is this one, which is ready where it joins the ready ones
 pub record Notes (old new : Kept) (notice : Notice) (joins : Bool) : Type 0 where
   pub rows : Puts old.rows new.rows notice.path
-      (record (numbers_at old.rows notice.path) { latest = notice.seq.0; attempts = 0 })
+      (record (numbers_at old.rows notice.path) { latest = notice.seq.0; attempts = 0; refused = false })
   pub unserved :
       new.unserved ≡ with_newest old.unserved (numbers_at old.rows notice.path) notice true
   pub ready : new.ready ≡ with_newest old.ready (numbers_at old.rows notice.path) notice joins
@@ -103,15 +108,16 @@ pub record Serves (old new : Kept) (path : List ℕ) (number : ℕ) : Type 0 whe
       new.unserved ≡ without_served old.unserved (numbers_at old.rows path).latest number
   pub ready : new.ready ≡ without_served old.ready (numbers_at old.rows path).latest number
 
--- the path's latest notice was tried once more, where it has this number
-pub record Charges (old new : Kept) (path : List ℕ) (number retries : ℕ) : Type 0 where
+-- the path's latest notice was tried in vain, where it has this number
+pub record Tries (old new : Kept) (path : List ℕ) (number : ℕ) (refuses : Bool) (retries : ℕ)
+    : Type 0 where
   pub numbers : (other : List ℕ) → numbers_at new.rows other
-      ≡ (if bytes_eq path other then charged (numbers_at old.rows path) number
+      ≡ (if bytes_eq path other then tried (numbers_at old.rows path) number refuses
       else numbers_at old.rows other)
   pub rows : (other : List ℕ) → IsTrue (has_row old.rows other) → IsTrue (has_row new.rows other)
   pub unserved : new.unserved ≡ old.unserved
-  pub ready :
-      new.ready ≡ without_tried old.ready (charged (numbers_at old.rows path) number) retries
+  pub ready : new.ready
+      ≡ without_given_up old.ready (tried (numbers_at old.rows path) number refuses) retries
 
 -- the paths that pass come to be in a batch that is out, or in none, and nothing else changes
 pub record Marks (old new : Kept) (test : List ℕ → Bool) (mark : Bool) : Type 0 where

@@ -1,11 +1,15 @@
 -- The rows of paths: each path has its numbers.
-use Rattle.std.specs.Prelude.{◌≡◌, ◌<◌, ◌≤◌, ◌||◌, ℕ, Bool, false, IsTrue, List, [], length, bytes_eq, unwrap_or, is_some, slice_index_or, if◌then◌else◌}
+use Rattle.std.specs.Prelude.{◌≡◌, ◌<◌, ◌≤◌, ◌||◌, ℕ, Bool, false, nat_le, IsTrue, List, [], length, bytes_eq, unwrap_or, is_some, slice_index_or, if◌then◌else◌}
 use Rattle.std.specs.Map.{lookup, keys_of}
 use Rattle.ci_change.specs.declared.rows.Numbers.{Numbers}
 
 -- the numbers of a path without a row
 abbrev pub none : Numbers
-none = record { latest = 0; served = 0; attempts = 0; is_out = false }
+none = record { latest = 0; served = 0; attempts = 0; refused = false; is_out = false }
+
+-- a path's latest notice is set aside: its filter refused it, or it was tried so often
+abbrev pub sets_aside : Numbers → ℕ → Bool
+sets_aside numbers retries = numbers.refused || nat_le retries numbers.attempts
 
 -- the path has a row
 abbrev pub has_row : List (List ℕ × Numbers) → List ℕ → Bool

@@ -32,6 +32,7 @@ impl Model for ChangeList {
       notices = c.past.notices;
       served = c.past.served;
       charges = c.past.charges;
+      refusals = c.past.refusals;
       out = c.out.items;
       retries = c.retries;
     } };
@@ -41,11 +42,12 @@ impl Model for ChangeList {
 }
 
 impl ChangeList {
-    ghost use Rattle.ci_change.specs.Charges.{attempts_at, with_charge};
+    ghost use Rattle.ci_change.specs.Charges.{attempts_at, with_charge, with_refusal};
     ghost use Rattle.ci_change.specs.HandedIn.{is_known, nothing, notice_of};
     ghost use Rattle.ci_change.specs.HandedIn.{with_notice, with_served};
     ghost use Rattle.ci_change.specs.HandedIn.{with_batch, without_batch};
     ghost use Rattle.ci_change.specs.Pending as spec;
+    ghost use Rattle.ci_change.specs.Pending.{has_notice_of};
     ghost use Rattle.ci_change.specs.Register.{counted};
 
     /// Nothing handed in yet. A document is to be tried so many times.
@@ -142,8 +144,17 @@ impl ChangeList {
     pub fn charge(&mut self, path: &PathText, seq: Seq)
         ensures { self.new ≡ with_charge self.old path.now seq }
     {
-        self.register.charge(path, seq, self.retries);
+        self.register.tried(path, seq, false, self.retries);
         self.past = self.past.charged(path, seq);
+    }
+
+    /// The filter refused the notice of the path with this number, which isn't tried again. A
+    /// refusal that comes before its notice says nothing.
+    pub fn refuse(&mut self, path: &PathText, seq: Seq)
+        ensures { self.new ≡ with_refusal self.old path.now seq }
+    {
+        self.register.tried(path, seq, true, self.retries);
+        self.past = self.past.refused(path, seq);
     }
 
     /// The path is served up to this number. That takes memory only for a path that is new.
@@ -171,6 +182,14 @@ impl ChangeList {
         self.register.attempts_of(path)
     }
 
+    /// Whether the path is unfiltered: its unserved notice is set aside.
+    pub fn unfiltered_of(&self, path: &PathText) -> bool
+        ensures { result ≡ has_notice_of path.now (spec.unfiltered self.now) }
+    {
+        let is_set_aside = self.register.is_set_aside(path, self.retries);
+        is_set_aside && self.unserved_of(path).is_some()
+    }
+
     /// The number and the kind of the path's unserved notice, if it has one.
     pub fn unserved_of(&self, path: &PathText) -> Option<(Seq, What)>
         ensures { spec.kinds (spec.with_path path.now (spec.unserved self.now))
@@ -188,12 +207,13 @@ impl ChangeList {
         Ok(list)
     }
 
-    /// The paths of the notices that were tried in vain as often as they are to be, in byte order.
+    /// The paths of the notices that are to be tried no more, in byte order: their filter refused
+    /// them, or they failed as often as they are to be tried.
     pub fn unfiltered(&self) -> Result<Vec<PathText>, OutOfMemory>
         ensures { let paths = spec.paths_of (spec.unfiltered self.now) in
             IfOk result (λ list. spec.ListsPaths paths list.items) }
     {
-        let mut list = self.register.tried(self.alloc, self.retries)?;
+        let mut list = self.register.given_up(self.alloc, self.retries)?;
         list.sort_unstable_by(|a, b| a.cmp(b));
         Ok(list)
     }

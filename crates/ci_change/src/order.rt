@@ -108,13 +108,13 @@ pub fn renew(
     Ok(())
 }
 
-/// Takes out a path's latest notice, if it has one that was tried so often.
+/// Takes out a path's latest notice, if it has one that is set aside.
 pub fn give_up(ready: &mut Order, numbers: Numbers, retries: u32)
     requires { IsOrdered nat_cmp ready.old }
     ensures entries { ready.new.entries ≡ given_up ready.old.entries numbers retries }
     ensures ordered { IsOrdered nat_cmp ready.new }
 {
-    if 0 < numbers.latest && retries <= numbers.attempts {
+    if 0 < numbers.latest && numbers.sets_aside(retries) {
         take_out(ready, numbers.latest);
     }
 }

@@ -1,5 +1,5 @@
 ghost use Rattle.std.specs.Prelude.{◌≡◌, ◌++◌, [], ◌∷◌};
-ghost use Rattle.ci_change.specs.Charges.{charges_with};
+ghost use Rattle.ci_change.specs.Charges.{charges_with, refusals_with};
 ghost use Rattle.ci_change.specs.HandedIn.{no_history, notice_of};
 
 use crate::What;
@@ -53,6 +53,15 @@ impl Past {
     {
         Past {
             steps: self.steps.charged(path, seq),
+        }
+    }
+
+    pub fn refused(&self, path: &PathText, seq: Seq) -> Past
+        ensures { let refusals = refusals_with self.now.notices self.now.refusals path.now seq in
+            result ≡ record self.now { refusals = refusals } }
+    {
+        Past {
+            steps: self.steps.refused(path, seq),
         }
     }
 

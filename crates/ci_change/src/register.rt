@@ -3,8 +3,8 @@ ghost use Rattle.std.specs.Prelude.{◌≡◌, ◌<◌, ◌≤◌, ◌+◌, ◌-
 use crate::held::{lowered, moved, recounted};
 use crate::order::{Entry, Order, copy_order, give_up, renew, retire};
 use crate::rows::{
-    Numbers, Rows, attempts_of, copy_rows, is_out, is_tried, latest_of, numbers_of, path_at,
-    place_of, put_numbers, served_of,
+    Numbers, Rows, attempts_of, copy_rows, is_given_up, is_out, is_set_aside, latest_of,
+    numbers_of, path_at, place_of, put_numbers, served_of,
 };
 use crate::{Docs, Notice, What};
 use ci_base::{OutOfMemory, PathText, Seq};
@@ -41,9 +41,9 @@ impl Model for Register {
 
 impl Register {
     ghost use Rattle.ci_change.specs.HandedIn.{notice_of};
-    ghost use Rattle.ci_change.specs.Register.{waits, is_spare, is_tried as is_tried_in};
-    ghost use Rattle.ci_change.specs.Register.{Charges, Marks, Notes, Serves, Stays, IsHeldBelow, IsOwn};
-    ghost use Rattle.ci_change.specs.Rows.{has_row, numbers_at};
+    ghost use Rattle.ci_change.specs.Register.{waits, is_spare, is_given_up as is_given_up_in};
+    ghost use Rattle.ci_change.specs.Register.{Marks, Notes, Serves, Stays, Tries, IsHeldBelow, IsOwn};
+    ghost use Rattle.ci_change.specs.Rows.{has_row, numbers_at, sets_aside};
     ghost use Rattle.ci_change.specs.Pending.{docs_of, has_path, kinds, paths_of, with_number};
 
     pub fn new(alloc: Global) -> Register
@@ -106,6 +106,7 @@ impl Register {
         let newest = Numbers {
             latest,
             attempts: 0,
+            refused: false,
             ..numbers
         };
         put_numbers(&mut self.rows, place, newest);
@@ -130,14 +131,14 @@ impl Register {
         Ok(())
     }
 
-    /// The path's latest notice was tried once more, where it has this number. It isn't ready any
-    /// more when it was tried so often.
-    pub fn charge(&mut self, path: &PathText, seq: Seq, retries: u32)
+    /// The path's latest notice was tried in vain, where it has this number: its filter refused it,
+    /// or it failed. It isn't ready any more when it is set aside.
+    pub fn tried(&mut self, path: &PathText, seq: Seq, refuses: bool, retries: u32)
         requires own { IsOwn self.old path.now }
-        ensures { Charges self.old self.new path.now seq.0 retries }
+        ensures { Tries self.old self.new path.now seq.0 refuses retries }
     {
         if let Some(place) = self.rows.get_index_of(path) {
-            let numbers = numbers_of(&self.rows, place).charged(seq.0);
+            let numbers = numbers_of(&self.rows, place).tried(seq.0, refuses);
             put_numbers(&mut self.rows, place, numbers);
             let was = self.ready.len();
             give_up(&mut self.ready, numbers, retries);
@@ -172,11 +173,18 @@ impl Register {
         }
     }
 
-    /// How often the path's latest notice was tried in vain, or 0.
+    /// How often the path's latest notice was tried and failed, or 0.
     pub fn attempts_of(&self, path: &PathText) -> u32
         ensures { result ≡ (numbers_at self.now.rows path.now).attempts }
     {
         attempts_of(&self.rows, path)
+    }
+
+    /// Whether the path's latest notice is set aside.
+    pub fn is_set_aside(&self, path: &PathText, retries: u32) -> bool
+        ensures { result ≡ sets_aside (numbers_at self.now.rows path.now) retries }
+    {
+        is_set_aside(&self.rows, path, retries)
     }
 
     /// The served number of a path, or 0.
@@ -198,14 +206,14 @@ impl Register {
         }
     }
 
-    /// A copy of the unserved notices that weren't tried so often yet, in order.
+    /// A copy of the unserved notices that are still to be tried, in order.
     pub fn pending(&self, alloc: Global, retries: u32) -> Result<Vec<Notice>, OutOfMemory>
         ensures { let pending = filter (waits self.now.rows retries) self.now.unserved in
             IfOk result (λ list. list.items ≡ pending) }
     {
         let mut list = Vec::new(alloc);
         for (number, entry) in &self.order {
-            if !is_tried(&self.rows, entry.place, retries) {
+            if !is_given_up(&self.rows, entry.place, retries) {
                 list.push(Notice {
                     path: path_at(&self.rows, entry.place).copy(alloc)?,
                     seq: Seq(*number),
@@ -216,14 +224,14 @@ impl Register {
         Ok(list)
     }
 
-    /// The paths of the unserved notices that were tried so often, in order.
-    pub fn tried(&self, alloc: Global, retries: u32) -> Result<Vec<PathText>, OutOfMemory>
-        ensures { let tried = filter (is_tried_in self.now.rows retries) self.now.unserved in
-            IfOk result (λ list. list.items ≡ paths_of tried) }
+    /// The paths of the unserved notices that are set aside, in order.
+    pub fn given_up(&self, alloc: Global, retries: u32) -> Result<Vec<PathText>, OutOfMemory>
+        ensures { let given_up = filter (is_given_up_in self.now.rows retries) self.now.unserved in
+            IfOk result (λ list. list.items ≡ paths_of given_up) }
     {
         let mut list = Vec::new(alloc);
         for (_, entry) in &self.order {
-            if is_tried(&self.rows, entry.place, retries) {
+            if is_given_up(&self.rows, entry.place, retries) {
                 list.push(path_at(&self.rows, entry.place).copy(alloc)?)?;
             }
         }

@@ -1,32 +1,48 @@
-ghost use Rattle.std.specs.Prelude.{◌≡◌, ◌<◌, ℕ, List, Some, length, nat_le, slice_get, IsTrue, IsOk, IfOk};
+ghost use Rattle.std.specs.Prelude.{◌≡◌, ◌<◌, ℕ, List, Some, length, slice_get, IsTrue, IsOk, IfOk};
 ghost use Rattle.std.specs.Map.{keys_of};
-ghost use Rattle.ci_change.specs.Register.{charged};
-ghost use Rattle.ci_change.specs.Rows.{has_row, numbers_at, KeepsRows, Puts};
+ghost use Rattle.ci_change.specs.Register.{tried};
+ghost use Rattle.ci_change.specs.Rows.{has_row, numbers_at, sets_aside, KeepsRows, Puts};
 
 use ci_base::{OutOfMemory, PathText};
 use indexmap::IndexMap;
 use std::alloc::Global;
 
-/// The number of a path's latest notice, its served number, and how often that notice was tried in
-/// vain. 0 stands for none. And whether a batch that is out has the path.
+/// The number of a path's latest notice, its served number, and how often that notice was tried and
+/// failed. 0 stands for none. Whether its filter refused it, and whether a batch that is out has the
+/// path.
 #[derive(Clone, Copy, Debug)]
 pub struct Numbers {
     pub latest: u64,
     pub served: u64,
     pub attempts: u32,
+    pub refused: bool,
     pub is_out: bool,
 }
 
 impl Numbers {
-    /// These numbers when the latest notice was tried once more, where it has this number.
-    pub fn charged(self, number: u64) -> Numbers
-        ensures { result ≡ charged self number }
+    /// These numbers when the latest notice was tried in vain, where it has this number: its filter
+    /// refused it, or it failed once more.
+    pub fn tried(self, number: u64, refuses: bool) -> Numbers
+        ensures { result ≡ tried self number refuses }
     {
         if number == 0 || self.latest != number {
             return self;
         }
+        if refuses {
+            return Numbers {
+                refused: true,
+                ..self
+            };
+        }
         let attempts = self.attempts.saturating_add(1);
         Numbers { attempts, ..self }
+    }
+
+    /// Whether the latest notice is set aside: it was refused, or tried so often.
+    pub fn sets_aside(self, retries: u32) -> bool
+        ensures { result ≡ sets_aside self retries }
+    {
+        self.refused || retries <= self.attempts
     }
 }
 
@@ -47,6 +63,7 @@ pub fn place_of(rows: &mut Rows, alloc: Global, path: &PathText) -> Result<usize
                 latest: 0,
                 served: 0,
                 attempts: 0,
+                refused: false,
                 is_out: false,
             };
             let place = rows.len();
@@ -84,13 +101,13 @@ pub fn numbers_of(rows: &Rows, place: usize) -> Numbers
     *rows.get_index(place).unwrap().1
 }
 
-/// Whether the latest notice of the path at a place was tried so often.
-pub fn is_tried(rows: &Rows, place: usize, retries: u32) -> bool
+/// Whether the latest notice of the path at a place is set aside.
+pub fn is_given_up(rows: &Rows, place: usize, retries: u32) -> bool
     requires { place < length rows.now.entries }
     ensures { (path : List ℕ) → slice_get (keys_of rows.now.entries) place ≡ Some path →
-        result ≡ nat_le retries (numbers_at rows.now.entries path).attempts }
+        result ≡ sets_aside (numbers_at rows.now.entries path) retries }
 {
-    retries <= numbers_of(rows, place).attempts
+    numbers_of(rows, place).sets_aside(retries)
 }
 
 /// Whether a batch that is out has the path at a place.
@@ -133,7 +150,17 @@ pub fn latest_of(rows: &Rows, path: &PathText) -> u64
     }
 }
 
-/// How often a path's latest notice was tried in vain, or 0.
+/// Whether a path's latest notice is set aside.
+pub fn is_set_aside(rows: &Rows, path: &PathText, retries: u32) -> bool
+    ensures { result ≡ sets_aside (numbers_at rows.now.entries path.now) retries }
+{
+    match rows.get(path) {
+        Some(numbers) => numbers.sets_aside(retries),
+        None => retries == 0,
+    }
+}
+
+/// How often a path's latest notice was tried and failed, or 0.
 pub fn attempts_of(rows: &Rows, path: &PathText) -> u32
     ensures { result ≡ (numbers_at rows.now.entries path.now).attempts }
 {

@@ -1,5 +1,5 @@
 ghost use Rattle.std.specs.Prelude.{◌≡◌, ◌+◌, ◌++◌, [], ◌∷◌};
-ghost use Rattle.ci_change.specs.Charges.{charges_with};
+ghost use Rattle.ci_change.specs.Charges.{charges_with, refusals_with};
 ghost use Rattle.ci_change.specs.HandedIn.{no_history, notice_of};
 
 use crate::What;
@@ -22,6 +22,7 @@ enum Step {
     Noted(Snapshot<Steps>, Snapshot<PathText>, Seq, What),
     Served(Snapshot<Steps>, Snapshot<PathText>, Seq),
     Charged(Snapshot<Steps>, Snapshot<PathText>, Seq),
+    Refused(Snapshot<Steps>, Snapshot<PathText>, Seq),
     Same(Snapshot<Steps>),
 }
 
@@ -73,6 +74,16 @@ impl Steps {
     {
         Steps {
             step: Step::Charged(Snapshot::of(self), Snapshot::of(path), seq),
+        }
+    }
+
+    pub fn refused(&self, path: &PathText, seq: Seq) -> Steps
+        ensures { let past = self.now.history in
+            let refusals = refusals_with past.notices past.refusals path.now seq in
+            result.history ≡ record past { refusals = refusals } }
+    {
+        Steps {
+            step: Step::Refused(Snapshot::of(self), Snapshot::of(path), seq),
         }
     }
 

@@ -1,10 +1,9 @@
-ghost use Rattle.std.specs.Prelude.{◌<◌, ◌≤◌, [], drop, length, take, All, IfOk, IfErr, OnOk};
+ghost use Rattle.std.specs.Prelude.{◌<◌, ◌≤◌, [], drop, length, take, IfOk, IfErr, OnOk};
 ghost use Rattle.ci_journal.specs.declared.event.Happened.{Happened};
 ghost use Rattle.ci_holdings.specs.Batches.{Begins, CanFinish, RefusesBeginning};
 ghost use Rattle.ci_journal.specs.Tells.{event};
 ghost use Rattle.ci_core.specs.Fixed.{KeepsFixed};
 ghost use Rattle.ci_holdings.specs.Refusals.{IsStep};
-ghost use Rattle.ci_holdings.specs.Serving.{IsDone};
 ghost use Rattle.ci_holdings.specs.Steps.{Charges, Ends, IsUnrefused, KeepsMap};
 ghost use Rattle.ci_journal.specs.Step.{MayEnd};
 
@@ -31,16 +30,17 @@ impl<K: Sink + Drop> Catalog<K> {
         }
     }
 
-    /// The batch is out no more, and each of its documents has its outcome: the document's entry
-    /// is that of its transcript, unless it was served under a later number.
+    /// The batch is out no more, and each of its documents has its outcome. One that was read to its
+    /// end gets the entry of its transcript, unless it was served under a later number. One that
+    /// failed spent an attempt, and one that its filter refused isn't tried again: both keep the
+    /// entry that they have.
     pub fn finish_batch(
         &mut self,
         by: u32,
         batch: &Batch,
         outcomes: Outcomes,
     ) -> Result<(), CoreFault>
-        requires may { CanFinish self.old.sheet.events by batch.now outcomes }
-        requires done { All IsDone outcomes }
+        requires { CanFinish self.old.sheet.events by batch.now outcomes }
         ensures step { IsStep self.old self.new
             (event by (Happened.BatchDone batch.now.number outcomes)) result }
         ensures fixed { KeepsFixed self.old self.new }

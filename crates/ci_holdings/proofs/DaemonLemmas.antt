@@ -6,9 +6,9 @@ use Rattle.ci_journal.specs.declared.event.Happened.{Happened}
 use Rattle.ci_journal.specs.declared.event.Happened.TheVariants.{Started, StartFailed, DaemonLost}
 use Rattle.ci_journal.specs.Bytes.{journal_bytes}
 use Rattle.ci_journal.specs.Daemon.{failures, failures_behind, most_failures}
-use Rattle.ci_journal.specs.Filings.{Filings, batches, fates, filings}
+use Rattle.ci_journal.specs.Filings.{Filings, batches, filings}
 use Rattle.ci_journal.specs.Folds.{new_notices, notices, requests_in, reply_numbers}
-use Rattle.ci_journal.specs.Pending.{charges_in}
+use Rattle.ci_journal.specs.Pending.{charges_in, refusals_in}
 use Rattle.ci_journal.specs.Served.{live_map, numbers_of, served_by}
 use Rattle.ci_journal.specs.Step.{Chain, Run, step_of}
 use Rattle.ci_journal.specs.Step.Chain.{NoEvent, Next}
@@ -21,7 +21,6 @@ use Rattle.ci_documents.specs.Documents.{StandFor}
 use Rattle.ci_book.specs.Changes.{Adds, IsReady, Puts}
 use Rattle.ci_holdings.specs.Kept.{Counts, IsHolding, Shelf, Tracks}
 use Rattle.ci_holdings.specs.Open.{AreOpen}
-use Rattle.ci_holdings.specs.Serving.{AreUnrefused}
 use Rattle.ci_book.specs.Sheet.{Sheet}
 use Rattle.ci_holdings.specs.Steps.{numbered_behind}
 use Rattle.ci_holdings.specs.Waiting.{IsQueue, MarksReplies}
@@ -64,7 +63,6 @@ pub record IsQuiet (what : Happened) : Type 0 where
 
 -- what is kept beside a journal, whether or not this is a run
 pub record IsBeside (terms : Terms) (events : List Event) (shelf : Shelf) : Type 0 where
-  pub unrefused : AreUnrefused (fates events)
   pub counts : Counts events shelf
   pub waits : IsQueue terms events shelf.waiting
   pub opened : AreOpen terms events shelf.questions
@@ -74,7 +72,6 @@ pub record IsBeside (terms : Terms) (events : List Event) (shelf : Shelf) : Type
 
 beside-of : (terms : Terms) (sheet : Sheet) (shelf : Shelf) → IsHolding terms sheet shelf → IsBeside terms sheet.events shelf
 beside-of terms sheet shelf kept = record {
-  unrefused = kept.unrefused;
   counts = kept.counts;
   waits = kept.waits;
   opened = kept.opened;
@@ -119,7 +116,6 @@ module _ (terms : Terms) (events : List Event) (shelf : Shelf) (kept : IsBeside 
   -- one event that tells of starts alone
   pub IsBeside-quiet : IsBeside terms longer after
   IsBeside-quiet = record {
-    unrefused = subst (λ (f : Filings). AreUnrefused f.filed) (sym filings_same) kept.unrefused;
     counts = record {
       requests = kept.counts.requests ∙ ap length (sym requests_same);
       replies = kept.counts.replies ∙ ap length (sym (reply_numbers-push events e ∙ no_more (reply_numbers events) (tells e.what).reply quiet.reply));
@@ -135,6 +131,7 @@ module _ (terms : Terms) (events : List Event) (shelf : Shelf) (kept : IsBeside 
       notices = kept.tracks.notices ∙ sym (notices-push terms events e ∙ no_more (notices terms events) (tells e.what).notice quiet.notice);
       served = kept.tracks.served ∙ ap (λ (f : Filings). terms.beginning.numbers ++ numbers_of f.filed) (sym filings_same);
       charges = kept.tracks.charges ∙ ap (λ (f : Filings). charges_in f.filed) (sym filings_same);
+      refusals = kept.tracks.refusals ∙ ap (λ (f : Filings). refusals_in f.filed) (sym filings_same);
       out = kept.tracks.out ∙ ap (λ (f : Filings). f.out) (sym filings_same);
       retries = kept.tracks.retries;
     };
@@ -161,7 +158,6 @@ module _ (terms : Terms) (old : Sheet) (shelf : Shelf) (kept : IsHolding terms o
       let follows : Follows terms old (event by Started) shelf after_start = record {
         may = tt;
         alone = refl;
-        filed = kept.unrefused;
         requests = omega arith;
         replies = omega arith;
         noted = omega arith;
@@ -174,6 +170,7 @@ module _ (terms : Terms) (old : Sheet) (shelf : Shelf) (kept : IsHolding terms o
         notices = sym (append-nil _);
         served = kept.tracks.served;
         charges = kept.tracks.charges;
+        refusals = kept.tracks.refusals;
         retries = refl;
         out = kept.tracks.out;
         stands = kept.stands;
@@ -187,7 +184,6 @@ module _ (terms : Terms) (old : Sheet) (shelf : Shelf) (kept : IsHolding terms o
       let follows : Follows terms old (event by StartFailed) shelf after_failing = record {
         may = tt;
         alone = failed_is terms old.events by other;
-        filed = kept.unrefused;
         requests = omega arith;
         replies = omega arith;
         noted = omega arith;
@@ -200,6 +196,7 @@ module _ (terms : Terms) (old : Sheet) (shelf : Shelf) (kept : IsHolding terms o
         notices = sym (append-nil _);
         served = kept.tracks.served;
         charges = kept.tracks.charges;
+        refusals = kept.tracks.refusals;
         retries = refl;
         out = kept.tracks.out;
         stands = kept.stands;
@@ -245,7 +242,6 @@ module _ (terms : Terms) (old : Sheet) (shelf : Shelf) (kept : IsHolding terms o
           within = IsWithin-whole new.limit new.events lost-within;
           room = omega (arith, fits.room, first.spare, second.spare, kept.counts.places, both.counts.places);
           small = rw limit_same kept.small;
-          unrefused = both.unrefused;
           counts = both.counts;
           waits = both.waits;
           opened = both.opened;

@@ -10,7 +10,7 @@ use Rattle.ci_journal.specs.declared.event.Event.{Event}
 use Rattle.ci_journal.specs.declared.event.Happened.TheVariants.{BatchDied, Returned}
 use Rattle.ci_journal.specs.Filings.{Filings, docs_out, fates, fates_at_end, filing, out, without_number}
 use Rattle.ci_journal.specs.Folds.{notices}
-use Rattle.ci_journal.specs.Pending.{charge_of, charges_in}
+use Rattle.ci_journal.specs.Pending.{charge_of, charges_in, refusal_of, refusals_in}
 use Rattle.ci_journal.specs.Served.{live_map, numbers_of, served_by}
 use Rattle.ci_journal.specs.Step.{MayEnd}
 use Rattle.ci_journal.specs.Tells.{Filing, event}
@@ -24,12 +24,10 @@ use Rattle.ci_book.specs.Changes.{Puts}
 use Rattle.ci_book.specs.Sheet.{Sheet}
 use Rattle.ci_documents.specs.Documents.{StandFor}
 use Rattle.ci_holdings.specs.Kept.{IsHolding, Shelf}
-use Rattle.ci_holdings.specs.Serving.{AreUnrefused}
 use Rattle.ci_holdings.proofs.KeptLemmas.{Follows, IsHolding-follows}
 use Rattle.ci_holdings.proofs.OpenLemmas.{AreOpen-later}
 use Rattle.ci_holdings.proofs.OutLemmas.{docs_out-is, docs_reached, out-push}
 use Rattle.ci_holdings.proofs.QueueLemmas.{IsQueue-silent}
-use Rattle.ci_holdings.proofs.StepLemmas.{AreUnrefused-push}
 use Rattle.ci_holdings.proofs.WithinLemmas.{IsWithin-end, fewer-out}
 
 -- the one document at a place
@@ -68,6 +66,10 @@ module _ (terms : Terms) (old : Sheet) (shelf : Shelf) (kept : IsHolding terms o
   numbers_behind : numbers_of (fates old.events) ≡ numbers_of (fates old.events ++ fates_at_end (docs_out (out old.events) batch.number) (Within charged))
   numbers_behind = sym (append-nil (numbers_of (fates old.events))) ∙ sym (numbers_of-push (fates old.events) fate) ∙ ap numbers_of (sym behind)
 
+  -- and isn't a refusal
+  refusals_behind : refusals_in (fates old.events) ≡ refusals_in (fates old.events ++ fates_at_end (docs_out (out old.events) batch.number) (Within charged))
+  refusals_behind = sym (append-nil (refusals_in (fates old.events))) ∙ sym (filter_map-push refusal_of (fates old.events) fate) ∙ ap refusals_in (sym behind)
+
   -- no entry changes, and the one document is charged
   pub died-entries : (by : ℕ) → live_map terms (old.events ++ event by (BatchDied batch.number charged) ∷ []) ≡ live_map terms old.events
   died-entries by =
@@ -89,7 +91,6 @@ module _ (terms : Terms) (old : Sheet) (shelf : Shelf) (kept : IsHolding terms o
       let follows : Follows terms old e shelf after_death = record {
         may = (batch, may, within);
         alone = refl;
-        filed = subst AreUnrefused (sym behind) (AreUnrefused-push (fates old.events) fate kept.unrefused refl);
         requests = omega arith;
         replies = omega arith;
         noted = omega arith;
@@ -102,6 +103,7 @@ module _ (terms : Terms) (old : Sheet) (shelf : Shelf) (kept : IsHolding terms o
         notices = ap (λ (h : HandedIn). h.notices) given ∙ ap (λ (h : HandedIn). h.notices) handed ∙ sym (append-nil _);
         served = ap (λ (h : HandedIn). h.served) given ∙ ap (λ (h : HandedIn). h.served) handed ∙ kept.tracks.served ∙ ap (λ ns. terms.beginning.numbers ++ ns) numbers_behind;
         charges = ap (λ (h : HandedIn). h.charges) given ∙ charges_behind tried handed;
+        refusals = ap (λ (h : HandedIn). h.refusals) given ∙ ap (λ (h : HandedIn). h.refusals) handed ∙ kept.tracks.refusals ∙ refusals_behind;
         retries = ap (λ (h : HandedIn). h.retries) given ∙ ap (λ (h : HandedIn). h.retries) handed;
         out = ap (λ (h : HandedIn). h.out) given ∙ ap (λ (h : HandedIn). without_number h.out batch.number) handed ∙ ap (λ bs. without_number bs batch.number) kept.tracks.out;
         stands = subst (λ fs. StandFor (served_by terms fs).documents shelf.documents) (sym behind)

@@ -7,7 +7,7 @@ use Rattle.ci_journal.specs.Bytes.{capped, event_bytes}
 use Rattle.ci_journal.specs.Daemon.{failures, failures_behind}
 use Rattle.ci_journal.specs.Filings.{Filings, filings, batches, out}
 use Rattle.ci_journal.specs.Folds.{requests_in, new_notices, reply_numbers}
-use Rattle.ci_journal.specs.Pending.{charges_in}
+use Rattle.ci_journal.specs.Pending.{charges_in, refusals_in}
 use Rattle.ci_journal.specs.Served.{numbers_of, served_by}
 use Rattle.ci_journal.specs.Step.{May, Run, step_of}
 use Rattle.ci_journal.specs.Step.Run.{Empty}
@@ -24,7 +24,6 @@ use Rattle.ci_book.specs.Changes.{IsReady, LacksRoom, Puts, Stays}
 use Rattle.ci_documents.specs.Documents.{KeepsEntries, Standings, StandFor}
 use Rattle.ci_holdings.specs.Kept.{IsHolding, Shelf, StartsEmpty}
 use Rattle.ci_holdings.specs.Open.{AreOpen}
-use Rattle.ci_holdings.specs.Serving.{AreUnrefused}
 use Rattle.ci_holdings.specs.declared.question.Question.{Question}
 use Rattle.ci_book.specs.Sheet.{Sheet}
 use Rattle.ci_holdings.specs.Waiting.{IsQueue, Marks}
@@ -42,14 +41,13 @@ failures-push journal e = tellings-fold (λ (t : Tells). t.start) failures_behin
 
 -- an empty journal says nothing
 pub IsHolding-empty : (terms : Terms) (sheet : Sheet) (shelf : Shelf) → StartsEmpty terms → sheet.events ≡ [] → sheet.limit ≤ JOURNAL_MOST → shelf.documents ≡ [] → shelf.waiting ≡ [] → shelf.questions ≡ [] → shelf.marks.list ≡ [] →
-    shelf.changes.notices ≡ [] → shelf.changes.served ≡ [] → shelf.changes.charges ≡ [] → shelf.changes.out ≡ [] → shelf.changes.retries ≡ terms.retries → shelf.requests ≡ 0 → shelf.replies ≡ 0 → shelf.noted ≡ 0 → shelf.begun ≡ 0 → shelf.places ≡ 1 → shelf.failed ≡ 0 → IsHolding terms sheet shelf
-IsHolding-empty terms sheet shelf starts none small no_document no_query no_question no_mark no_notice no_served no_charge no_out retries requests replies noted begun places failed = record {
+    shelf.changes.notices ≡ [] → shelf.changes.served ≡ [] → shelf.changes.charges ≡ [] → shelf.changes.refusals ≡ [] → shelf.changes.out ≡ [] → shelf.changes.retries ≡ terms.retries → shelf.requests ≡ 0 → shelf.replies ≡ 0 → shelf.noted ≡ 0 → shelf.begun ≡ 0 → shelf.places ≡ 1 → shelf.failed ≡ 0 → IsHolding terms sheet shelf
+IsHolding-empty terms sheet shelf starts none small no_document no_query no_question no_mark no_notice no_served no_charge no_refusal no_out retries requests replies noted begun places failed = record {
   starts = starts;
   run = rw none Empty;
   within = rw none (IsWithin-whole sheet.limit [] (omega arith));
   room = rw none (omega arith);
   small = small;
-  unrefused = rw none (λ k d within. absurd (omega (arith, within)));
   counts = rw none (record { requests = requests; replies = replies; noted = noted; begun = begun; places = places; failed = failed });
   waits = rw (none, no_query) (IsQueue-empty terms);
   opened = rw (none, no_question) (AreOpen-empty terms);
@@ -58,6 +56,7 @@ IsHolding-empty terms sheet shelf starts none small no_document no_query no_ques
     notices = no_notice ∙ sym (ap (λ (b : Beginning). b.notices ++ []) starts.beginning);
     served = no_served ∙ sym (ap (λ (b : Beginning). b.numbers ++ []) starts.beginning);
     charges = no_charge;
+    refusals = no_refusal;
     out = no_out;
     retries = retries;
   });
@@ -78,9 +77,9 @@ pub record Follows (terms : Terms) (old : Sheet) (event : Event) (before after :
   pub opened : AreOpen terms (old.events ++ event ∷ []) after.questions
   pub marks : after.marks.list ≡ marks_behind before.marks.list event.what
   pub notices : after.changes.notices ≡ before.changes.notices ++ option_to_list (tells event.what).notice
-  pub filed : AreUnrefused (file_where (filings old.events) (tells event.what).filed).filed
   pub served : after.changes.served ≡ terms.beginning.numbers ++ numbers_of (file_where (filings old.events) (tells event.what).filed).filed
   pub charges : after.changes.charges ≡ charges_in (file_where (filings old.events) (tells event.what).filed).filed
+  pub refusals : after.changes.refusals ≡ refusals_in (file_where (filings old.events) (tells event.what).filed).filed
   pub retries : after.changes.retries ≡ before.changes.retries
   pub out : after.changes.out ≡ (file_where (filings old.events) (tells event.what).filed).out
   pub stands : StandFor (served_by terms (file_where (filings old.events) (tells event.what).filed).filed).documents after.documents
@@ -94,7 +93,6 @@ module _ (terms : Terms) (old : Sheet) (event : Event) (before after : Shelf) (k
     within = subst (IsWithin new.limit) (sym events) within;
     room = omega (arith, room, step.places, ap length (ap out events ∙ out-push old.events event));
     small = rw limit kept.small;
-    unrefused = rw events (subst (λ (f : Filings). AreUnrefused f.filed) (sym (filings-push old.events event)) step.filed);
     counts = rw events (record {
       requests = omega (arith, kept.counts.requests, step.requests, ap length (requests_in-push old.events event), length-append (requests_in old.events) (option_to_list (tells event.what).request));
       replies = omega (arith, kept.counts.replies, step.replies, ap length (reply_numbers-push old.events event), length-append (reply_numbers old.events) (option_to_list (tells event.what).reply));
@@ -110,6 +108,7 @@ module _ (terms : Terms) (old : Sheet) (event : Event) (before after : Shelf) (k
       notices = step.notices ∙ ap (λ ns. ns ++ option_to_list (tells event.what).notice) kept.tracks.notices ∙ sym (notices-push terms old.events event);
       served = step.served ∙ ap (λ (f : Filings). terms.beginning.numbers ++ numbers_of f.filed) (sym (filings-push old.events event));
       charges = step.charges ∙ ap (λ (f : Filings). charges_in f.filed) (sym (filings-push old.events event));
+      refusals = step.refusals ∙ ap (λ (f : Filings). refusals_in f.filed) (sym (filings-push old.events event));
       out = step.out ∙ ap (λ (f : Filings). f.out) (sym (filings-push old.events event));
       retries = step.retries ∙ kept.tracks.retries;
     });
@@ -134,7 +133,6 @@ IsHolding-moved terms old new shelf kept events spare limit = record {
   within = rw (events, limit) kept.within;
   room = omega (arith, kept.room, spare, ap (λ es. length (out es)) events);
   small = rw limit kept.small;
-  unrefused = rw events kept.unrefused;
   counts = rw events kept.counts;
   waits = subst (λ es. IsQueue terms es shelf.waiting) (sym events) kept.waits;
   opened = subst (λ es. AreOpen terms es shelf.questions) (sym events) kept.opened;
@@ -157,7 +155,6 @@ IsHolding-placed terms old new shelf documents kept stays keeps =
       within = same.within;
       room = same.room;
       small = same.small;
-      unrefused = same.unrefused;
       counts = record { requests = same.counts.requests; replies = same.counts.replies; noted = same.counts.noted; begun = same.counts.begun; places = same.counts.places; failed = same.counts.failed };
       waits = same.waits;
       opened = same.opened;
@@ -183,7 +180,6 @@ IsHolding-shown terms sheet shelf waiting marks kept waits marked = record {
   within = kept.within;
   room = kept.room;
   small = kept.small;
-  unrefused = kept.unrefused;
   counts = record { requests = kept.counts.requests; replies = kept.counts.replies; noted = kept.counts.noted; begun = kept.counts.begun; places = kept.counts.places; failed = kept.counts.failed };
   waits = subst (IsQueue terms sheet.events) (sym waits) kept.waits;
   opened = kept.opened;
@@ -200,12 +196,11 @@ IsHolding-tracked terms sheet shelf changes kept same = record {
   within = kept.within;
   room = kept.room;
   small = kept.small;
-  unrefused = kept.unrefused;
   counts = record { requests = kept.counts.requests; replies = kept.counts.replies; noted = kept.counts.noted; begun = kept.counts.begun; places = kept.counts.places; failed = kept.counts.failed };
   waits = kept.waits;
   opened = kept.opened;
   marks = kept.marks;
-  tracks = rw same (record { notices = kept.tracks.notices; served = kept.tracks.served; charges = kept.tracks.charges; out = kept.tracks.out; retries = kept.tracks.retries });
+  tracks = rw same (record { notices = kept.tracks.notices; served = kept.tracks.served; charges = kept.tracks.charges; refusals = kept.tracks.refusals; out = kept.tracks.out; retries = kept.tracks.retries });
   stands = kept.stands;
 }
 
@@ -217,7 +212,6 @@ IsHolding-unasked terms sheet shelf questions kept same = record {
   within = kept.within;
   room = kept.room;
   small = kept.small;
-  unrefused = kept.unrefused;
   counts = record { requests = kept.counts.requests; replies = kept.counts.replies; noted = kept.counts.noted; begun = kept.counts.begun; places = kept.counts.places; failed = kept.counts.failed };
   waits = kept.waits;
   opened = rw same kept.opened;

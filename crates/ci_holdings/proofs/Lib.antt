@@ -11,6 +11,7 @@ pub mod NoticesLemmas
 pub mod NumbersLemmas
 pub mod OpenLemmas
 pub mod OutLemmas
+pub mod OutcomeLemmas
 pub mod PendingLemmas
 pub mod QueueLemmas
 pub mod ReachedLemmas

@@ -1,33 +1,28 @@
--- The documents of a batch, as they are served one after the other.
-use Rattle.std.proofs.Common.{arith, ◌≡◌, ◌∙◌, ◌&&◌, ℕ, ◌+◌, ◌<◌, Bool, true, false, cond, nat_lt, List, [], ◌∷◌, ◌++◌, All, length, drop, take, map, fold, get_or, Some, refl, ap, sym, subst, append_assoc, add-one, suc}
+-- The documents of a batch, as they are settled one after the other.
+use Rattle.std.proofs.Common.{◌≡◌, ◌∙◌, ◌&&◌, ◌||◌, ℕ, ◌+◌, ◌<◌, Bool, IsTrue, true, false, cond, nat_lt, List, [], ◌∷◌, ◌++◌, All, bytes_eq, length, drop, take, get_or, Some, refl, ap, sym, subst, add-one, suc}
 use Rattle.std.proofs.Math.Seq.{drop-cons}
-use Rattle.std.proofs.lemmas.List.{take_more}
-use Rattle.std.proofs.lemmas.List.Elements.{All-cons, All-head, All-more, All-tail, All-weaker}
+use Rattle.std.proofs.lemmas.List.Elements.{All-more, All-weaker}
+use Rattle.std.proofs.lemmas.List.Folds.{list_any-append}
 use Rattle.std.specs.FinMap as map_of_keys
 use Rattle.std.specs.Cmp.Lexicographic.{nat_list_cmp_total}
 use Rattle.std.specs.Ordering.{is_eq}
 use Rattle.ci_base.specs.declared.numbers.Seq.{Seq}
-use Rattle.ci_change.specs.HandedIn.{HandedIn, with_served}
+use Rattle.ci_change.specs.HandedIn.{HandedIn, is_known, was_noted, was_served}
 use Rattle.ci_change.specs.Pending.{served_number}
 use Rattle.ci_keys.specs.Entry.{EntryLists}
-use Rattle.ci_chunk.specs.declared.outcome.Outcome.{Outcome}
-use Rattle.ci_chunk.specs.declared.outcome.Outcome.TheVariants.{Done, Failed, Refused}
-use Rattle.ci_journal.specs.Filings.{filing, fate_of, fates_at_end}
-use Rattle.ci_journal.specs.Served.{numbers_of, serve}
-use Rattle.ci_journal.specs.Pending.{charges_in}
-use Rattle.ci_journal.specs.Tells.{Filing}
-use Rattle.ci_journal.specs.Tells.Ending.{Through}
-use Rattle.ci_journal.specs.Terms.{Served, Terms, path_cmp}
+use Rattle.ci_journal.specs.Terms.{Served, path_cmp}
 use Rattle.ci_documents.specs.Documents.{Standings, StandFor, KeepsEntries, Serves, entry_at, has_place}
-use Rattle.ci_holdings.specs.Serving.{AreUnrefused, IsDone, entry_from, is_unrefused, serve_entry, serve_entries}
+use Rattle.ci_holdings.specs.Serving.{IsSettledBy, settle, settle_all, tell, tell_all}
+use Rattle.ci_holdings.specs.declared.serving.Verdict.{Verdict}
+use Rattle.ci_holdings.specs.declared.serving.Verdict.TheVariants.{Filtered, Failed, Refused}
 use Rattle.ci_holdings.proofs.ServedLemmas.{flipped}
 
 -- one document served
 pub StandFor-served : (served : Served) (doc : List ℕ × Seq) (entry : EntryLists) (old new : Standings) → StandFor served.documents old → Serves old new doc.0 (nat_lt (served_number served.numbers doc.0) doc.1.0) entry
-    → StandFor (serve_entry served doc entry).documents new
+    → StandFor (settle served doc (Filtered entry)).documents new
 StandFor-served served doc entry old new stands serves = by (nat_lt (served_number served.numbers doc.0) doc.1.0) refl
   where
-    by : (b : Bool) → nat_lt (served_number served.numbers doc.0) doc.1.0 ≡ b → StandFor (serve_entry served doc entry).documents new
+    by : (b : Bool) → nat_lt (served_number served.numbers doc.0) doc.1.0 ≡ b → StandFor (settle served doc (Filtered entry)).documents new
     by true counts other =
         rw counts (map_of_keys.get-insert nat_list_cmp_total served.documents doc.0 entry other
         ∙ ap (λ b. cond b (Some entry) (map_of_keys.get served.documents other)) (flipped other doc.0)
@@ -36,68 +31,64 @@ StandFor-served served doc entry old new stands serves = by (nat_lt (served_numb
     by false counts other =
         rw counts (stands other ∙ sym (serves.entries other ∙ ap (λ b. cond (b && is_eq (path_cmp doc.0 other)) (Some entry) (entry_at old other)) counts))
 
--- what has come so far of serving documents with entries: some were served, and these are left
-pub record IsOnTheWay (served : Served) (docs : List (List ℕ × Seq)) (entries : List EntryLists) (changes : HandedIn) (documents : Standings) (docs_left : List (List ℕ × Seq)) (left : List EntryLists) : Type 0 where
+-- what was told and what is left to tell come to what all of them do
+pub record IsOnTheWay (served : Served) (docs : List (List ℕ × Seq)) (verdicts : List Verdict) (changes : HandedIn) (documents : Standings) (docs_left : List (List ℕ × Seq)) (left : List Verdict) : Type 0 where
   pub now : Served
   pub numbers : now.numbers ≡ changes.served
   pub stands : StandFor now.documents documents
-  pub comes : serve_entries now docs_left left ≡ serve_entries served docs entries
+  pub comes : settle_all now docs_left left ≡ settle_all served docs verdicts
+
+-- one document settled
+numbers-told : (served : Served) (changes : HandedIn) (doc : List ℕ × Seq) (verdict : Verdict) → served.numbers ≡ changes.served → (settle served doc verdict).numbers ≡ (tell changes doc verdict).served
+numbers-told served changes doc (Filtered entry) same = ap (λ ns. ns ++ doc ∷ []) same
+numbers-told served changes doc Failed same = same
+numbers-told served changes doc Refused same = same
+
+StandFor-settled : (served : Served) (doc : List ℕ × Seq) (verdict : Verdict) (old new : Standings) → StandFor served.documents old → IsSettledBy old new doc.0 (nat_lt (served_number served.numbers doc.0) doc.1.0) verdict
+    → StandFor (settle served doc verdict).documents new
+StandFor-settled served doc (Filtered entry) old new stands settles = StandFor-served served doc entry old new stands settles
+StandFor-settled served doc Failed old new stands settles = subst (StandFor served.documents) (sym settles) stands
+StandFor-settled served doc Refused old new stands settles = subst (StandFor served.documents) (sym settles) stands
 
 -- one document more
-pub IsOnTheWay-next : (served : Served) (docs : List (List ℕ × Seq)) (entries : List EntryLists) (changes after : HandedIn) (documents settled : Standings) (doc : List ℕ × Seq) (entry : EntryLists) (before docs_left : List (List ℕ × Seq)) (still left : List EntryLists)
-    → before ≡ doc ∷ docs_left → still ≡ entry ∷ left → IsOnTheWay served docs entries changes documents before still → after ≡ with_served changes doc.0 doc.1
-    → Serves documents settled doc.0 (nat_lt (served_number changes.served doc.0) doc.1.0) entry → IsOnTheWay served docs entries after settled docs_left left
-IsOnTheWay-next served docs entries changes after documents settled doc entry before docs_left still left next first way handed serves = record {
-  now = serve_entry way.now doc entry;
-  numbers = ap (λ ns. ns ++ doc ∷ []) way.numbers ∙ sym (ap (λ (h : HandedIn). h.served) handed);
-  stands = StandFor-served way.now doc entry documents settled way.stands (subst (λ ns. Serves documents settled doc.0 (nat_lt (served_number ns doc.0) doc.1.0) entry) (sym way.numbers) serves);
-  comes = sym (ap (λ ds. serve_entries way.now ds still) next ∙ ap (λ es. serve_entries way.now (doc ∷ docs_left) es) first) ∙ way.comes;
+pub IsOnTheWay-next : (served : Served) (docs : List (List ℕ × Seq)) (verdicts : List Verdict) (changes after : HandedIn) (documents settled : Standings) (doc : List ℕ × Seq) (verdict : Verdict) (before docs_left : List (List ℕ × Seq)) (still left : List Verdict)
+    → before ≡ doc ∷ docs_left → still ≡ verdict ∷ left → IsOnTheWay served docs verdicts changes documents before still → after ≡ tell changes doc verdict
+    → IsSettledBy documents settled doc.0 (nat_lt (served_number changes.served doc.0) doc.1.0) verdict → IsOnTheWay served docs verdicts after settled docs_left left
+IsOnTheWay-next served docs verdicts changes after documents settled doc verdict before docs_left still left next first way handed settles = record {
+  now = settle way.now doc verdict;
+  numbers = numbers-told way.now changes doc verdict way.numbers ∙ sym (ap (λ (h : HandedIn). h.served) handed);
+  stands = StandFor-settled way.now doc verdict documents settled way.stands (subst (λ ns. IsSettledBy documents settled doc.0 (nat_lt (served_number ns doc.0) doc.1.0) verdict) (sym way.numbers) settles);
+  comes = sym (ap (λ ds. settle_all way.now ds still) next ∙ ap (λ vs. settle_all way.now (doc ∷ docs_left) vs) first) ∙ way.comes;
 }
 
--- ---- against the journal
+-- and the change list is told of it
+pub told-next : (changes after end : HandedIn) (doc : List ℕ × Seq) (verdict : Verdict) (before docs_left : List (List ℕ × Seq)) (still left : List Verdict)
+    → before ≡ doc ∷ docs_left → still ≡ verdict ∷ left → tell_all changes before still ≡ end → after ≡ tell changes doc verdict → tell_all after docs_left left ≡ end
+told-next changes after end doc verdict before docs_left still left next first so_far handed =
+    ap (λ (h : HandedIn). tell_all h docs_left left) handed
+    ∙ sym (ap (λ ds. tell_all changes ds still) next ∙ ap (λ vs. tell_all changes (doc ∷ docs_left) vs) first) ∙ so_far
 
-serve_entry-is : (terms : Terms) (served : Served) (doc : List ℕ × Seq) (outcome : Outcome) → IsDone outcome → serve terms served (filing doc (fate_of outcome)) ≡ serve_entry served doc (entry_from terms.noise outcome)
-serve_entry-is terms served doc (Done transcript) done = refl
-serve_entry-is terms served doc (Failed status) done = absurd done
-serve_entry-is terms served doc (Refused status) done = absurd done
+pub told-all : (changes end : HandedIn) (docs_left : List (List ℕ × Seq)) (left : List Verdict) → tell_all changes docs_left left ≡ end → docs_left ≡ [] → changes ≡ end
+told-all changes end docs_left left so_far none = sym (ap (λ ds. tell_all changes ds left) none) ∙ so_far
 
--- the outcomes of a batch serve its documents with their entries
-pub served-outcomes : (terms : Terms) (served : Served) (docs : List (List ℕ × Seq)) (outcomes : List Outcome) → All IsDone outcomes → fold (serve terms) served (fates_at_end docs (Through outcomes)) ≡ serve_entries served docs (map (entry_from terms.noise) outcomes)
-served-outcomes terms served [] [] done = refl
-served-outcomes terms served [] (o ∷ outcomes) done = refl
-served-outcomes terms served (d ∷ docs) [] done = refl
-served-outcomes terms served (d ∷ docs) (o ∷ outcomes) done =
-    ap (λ s. fold (serve terms) s (fates_at_end docs (Through outcomes))) (serve_entry-is terms served d o (All-head IsDone o outcomes done))
-    ∙ served-outcomes terms (serve_entry served d (entry_from terms.noise o)) docs outcomes (All-tail IsDone o outcomes done)
+-- a path that is known stays known
+known-or : (noted here there : Bool) → IsTrue (noted || there) → IsTrue (noted || (there || here))
+known-or true here there known = refl
+known-or false here true known = refl
+known-or false here false known = absurd (cc)
 
--- their numbers are those of the documents
-pub numbers-outcomes : (docs : List (List ℕ × Seq)) (outcomes : List Outcome) → All IsDone outcomes → length outcomes ≡ length docs → numbers_of (fates_at_end docs (Through outcomes)) ≡ docs
-numbers-outcomes [] [] done each = refl
-numbers-outcomes [] (o ∷ outcomes) done each = absurd (omega (arith, each))
-numbers-outcomes (d ∷ docs) [] done each = absurd (omega (arith, each))
-numbers-outcomes (d ∷ docs) (Done transcript ∷ outcomes) done each = ap (λ ds. d ∷ ds) (numbers-outcomes docs outcomes (All-tail IsDone (Done transcript) outcomes done) (omega (arith, each)))
-numbers-outcomes (d ∷ docs) (Failed status ∷ outcomes) done each = absurd (All-head IsDone (Failed status) outcomes done)
-numbers-outcomes (d ∷ docs) (Refused status ∷ outcomes) done each = absurd (All-head IsDone (Refused status) outcomes done)
+pub known-told : (changes : HandedIn) (doc : List ℕ × Seq) (verdict : Verdict) (path : List ℕ) → IsTrue (is_known changes path) → IsTrue (is_known (tell changes doc verdict) path)
+known-told changes doc (Filtered entry) path known =
+    subst (λ b. IsTrue (was_noted changes.notices path || b)) (sym (list_any-append (λ (s : List ℕ × Seq). bytes_eq s.0 path) changes.served (doc ∷ [])))
+    (known-or (was_noted changes.notices path) _ (was_served changes.served path) known)
+known-told changes doc Failed path known = known
+known-told changes doc Refused path known = known
 
--- no attempt was spent on them
-pub charges-outcomes : (docs : List (List ℕ × Seq)) (outcomes : List Outcome) → All IsDone outcomes → charges_in (fates_at_end docs (Through outcomes)) ≡ []
-charges-outcomes [] [] done = refl
-charges-outcomes [] (o ∷ outcomes) done = refl
-charges-outcomes (d ∷ docs) [] done = refl
-charges-outcomes (d ∷ docs) (Done transcript ∷ outcomes) done = charges-outcomes docs outcomes (All-tail IsDone (Done transcript) outcomes done)
-charges-outcomes (d ∷ docs) (Failed status ∷ outcomes) done = absurd (All-head IsDone (Failed status) outcomes done)
-charges-outcomes (d ∷ docs) (Refused status ∷ outcomes) done = absurd (All-head IsDone (Refused status) outcomes done)
-
--- and none is refused
-pub AreUnrefused-outcomes : (docs : List (List ℕ × Seq)) (outcomes : List Outcome) → All IsDone outcomes → AreUnrefused (fates_at_end docs (Through outcomes))
-AreUnrefused-outcomes [] [] done = λ k d within. absurd (omega (arith, within))
-AreUnrefused-outcomes [] (o ∷ outcomes) done = λ k d within. absurd (omega (arith, within))
-AreUnrefused-outcomes (d ∷ docs) [] done = λ k d within. absurd (omega (arith, within))
-AreUnrefused-outcomes (d ∷ docs) (Done transcript ∷ outcomes) done =
-    All-cons (λ (f : Filing). is_unrefused f.fate ≡ true) (filing d (fate_of (Done transcript))) (fates_at_end docs (Through outcomes)) refl
-    (AreUnrefused-outcomes docs outcomes (All-tail IsDone (Done transcript) outcomes done))
-AreUnrefused-outcomes (d ∷ docs) (Failed status ∷ outcomes) done = absurd (All-head IsDone (Failed status) outcomes done)
-AreUnrefused-outcomes (d ∷ docs) (Refused status ∷ outcomes) done = absurd (All-head IsDone (Refused status) outcomes done)
+pub AreKnown-told : (changes after : HandedIn) (doc : List ℕ × Seq) (verdict : Verdict) (docs : List (List ℕ × Seq)) → after ≡ tell changes doc verdict → All (λ (d : List ℕ × Seq). IsTrue (is_known changes d.0)) docs
+    → All (λ (d : List ℕ × Seq). IsTrue (is_known after d.0)) docs
+AreKnown-told changes after doc verdict docs handed known =
+    subst (λ (h : HandedIn). All (λ (d : List ℕ × Seq). IsTrue (is_known h d.0)) docs) (sym handed)
+    (All-weaker (λ (d : List ℕ × Seq). IsTrue (is_known changes d.0)) (λ (d : List ℕ × Seq). IsTrue (is_known (tell changes doc verdict) d.0)) (λ d is. known-told changes doc verdict d.0 is) docs known)
 
 -- ---- steps of loops over documents
 
@@ -113,6 +104,11 @@ HavePlaces documents docs = All (λ (doc : List ℕ × Seq). has_place documents
 pub HavePlaces-kept : (old new : Standings) (docs : List (List ℕ × Seq)) → ((path : List ℕ) → has_place old path ≡ true → has_place new path ≡ true) → HavePlaces old docs → HavePlaces new docs
 HavePlaces-kept old new docs kept have = All-weaker (λ (doc : List ℕ × Seq). has_place old doc.0 ≡ true) (λ (doc : List ℕ × Seq). has_place new doc.0 ≡ true) (λ doc place. kept doc.0 place) docs have
 
+pub HavePlaces-settled : (old new : Standings) (path : List ℕ) (counts : Bool) (verdict : Verdict) (docs : List (List ℕ × Seq)) → IsSettledBy old new path counts verdict → HavePlaces old docs → HavePlaces new docs
+HavePlaces-settled old new path counts (Filtered entry) docs settles have = HavePlaces-kept old new docs settles.places have
+HavePlaces-settled old new path counts Failed docs settles have = subst (λ (s : Standings). HavePlaces s docs) (sym settles) have
+HavePlaces-settled old new path counts Refused docs settles have = subst (λ (s : Standings). HavePlaces s docs) (sym settles) have
+
 -- one place more
 pub HavePlaces-more : (old new : Standings) (docs : List (List ℕ × Seq)) (i : ℕ) (doc : List ℕ × Seq) → i < length docs → doc ≡ get_or docs i doc → KeepsEntries old new → has_place new doc.0 ≡ true
     → HavePlaces old (take i docs) → HavePlaces new (take (i + 1) docs)
@@ -123,20 +119,15 @@ HavePlaces-more old new docs i doc within is keeps here have =
 pub HavePlaces-at : (documents : Standings) (docs : List (List ℕ × Seq)) (i : ℕ) (doc : List ℕ × Seq) → i < length docs → doc ≡ get_or docs i doc → HavePlaces documents docs → has_place documents doc.0 ≡ true
 HavePlaces-at documents docs i doc within is have = subst (λ (d : List ℕ × Seq). has_place documents d.0 ≡ true) (sym is) (have i doc within)
 
--- one served number more
-pub served-more : (first before after : HandedIn) (docs : List (List ℕ × Seq)) (i : ℕ) (doc : List ℕ × Seq) → i < length docs → doc ≡ get_or docs i doc → before ≡ record first { served = first.served ++ take i docs } → after ≡ with_served before doc.0 doc.1
-    → after ≡ record first { served = first.served ++ take (i + 1) docs }
-served-more first before after docs i doc within is so_far more =
-    more ∙ ap (λ (h : HandedIn). with_served h doc.0 doc.1) so_far
-    ∙ ap (λ ns. let h : HandedIn = record first { served = ns } in h)
-    (append_assoc first.served (take i docs) (doc ∷ []) ∙ ap (λ ds. first.served ++ ds) (ap (λ d. take i docs ++ d ∷ []) is ∙ sym (take_more docs i doc within)))
+pub AreKnown-at : (changes : HandedIn) (docs : List (List ℕ × Seq)) (i : ℕ) (doc : List ℕ × Seq) → i < length docs → doc ≡ get_or docs i doc → All (λ (d : List ℕ × Seq). IsTrue (is_known changes d.0)) docs → IsTrue (is_known changes doc.0)
+AreKnown-at changes docs i doc within is known = subst (λ (d : List ℕ × Seq). IsTrue (is_known changes d.0)) (sym is) (known i doc within)
 
 pub drop-next : (docs : List (List ℕ × Seq)) (i : ℕ) (doc : List ℕ × Seq) → i < length docs → doc ≡ get_or docs i doc → drop i docs ≡ doc ∷ drop (i + 1) docs
 drop-next docs i doc within is = rw add-one (drop-cons docs i doc within ∙ ap (λ d. d ∷ drop (suc i) docs) (sym is))
 
--- all were served
-pub IsOnTheWay-all : (served : Served) (docs : List (List ℕ × Seq)) (entries : List EntryLists) (changes : HandedIn) (documents : Standings) (docs_left : List (List ℕ × Seq)) (left : List EntryLists)
-    → IsOnTheWay served docs entries changes documents docs_left left → docs_left ≡ [] → StandFor (serve_entries served docs entries).documents documents
-IsOnTheWay-all served docs entries changes documents docs_left left way none =
-    let comes = sym (ap (λ ds. serve_entries way.now ds left) none) ∙ way.comes in
+-- all were settled
+pub IsOnTheWay-all : (served : Served) (docs : List (List ℕ × Seq)) (verdicts : List Verdict) (changes : HandedIn) (documents : Standings) (docs_left : List (List ℕ × Seq)) (left : List Verdict)
+    → IsOnTheWay served docs verdicts changes documents docs_left left → docs_left ≡ [] → StandFor (settle_all served docs verdicts).documents documents
+IsOnTheWay-all served docs verdicts changes documents docs_left left way none =
+    let comes = sym (ap (λ ds. settle_all way.now ds left) none) ∙ way.comes in
     subst (λ (s : Served). StandFor s.documents documents) comes way.stands

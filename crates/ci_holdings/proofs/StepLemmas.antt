@@ -1,6 +1,5 @@
 -- What a catalogue keeps, step by step.
 use Rattle.std.proofs.Common.{arith, ◌≡◌, ◌∙◌, ℕ, ◌+◌, true, false, List, [], ◌∷◌, ◌++◌, length, filter, not, ◌==◌, nat_lt, Option, Some, None, option_to_list, refl, ap, sym, subst, append-nil, append_assoc}
-use Rattle.std.proofs.lemmas.List.Elements.{All-push}
 use Rattle.ci_base.specs.declared.numbers.Seq.{Seq}
 use Rattle.ci_change.specs.declared.notice.What.{What}
 use Rattle.ci_change.specs.declared.notice.What.TheVariants.{Changed}
@@ -19,7 +18,7 @@ use Rattle.ci_journal.specs.Bytes.{capped, event_bytes}
 use Rattle.ci_journal.specs.Queries.{AsksAt}
 use Rattle.ci_journal.specs.Filings.{fates}
 use Rattle.ci_journal.specs.Folds.{requests_in}
-use Rattle.ci_journal.specs.Pending.{charge_of, charges_in}
+use Rattle.ci_journal.specs.Pending.{charge_of, charges_in, refusal_of, refusals_in}
 use Rattle.ci_journal.specs.Served.{live_map, number_of, numbers_of, served_by}
 use Rattle.ci_journal.specs.Step.{MayPut, MayErase, MayAnswer, MaySay, shadow_before}
 use Rattle.ci_journal.specs.Tells.{Filing, event}
@@ -33,7 +32,6 @@ use Rattle.ci_book.specs.Book.{IsWithin}
 use Rattle.ci_book.specs.Changes.{Enters, IsReady, Puts, noted}
 use Rattle.ci_documents.specs.Documents.{Standings, StandFor, KeepsEntries, Serves, Settles}
 use Rattle.ci_holdings.specs.Kept.{IsHolding, Shelf, StartsEmpty}
-use Rattle.ci_holdings.specs.Serving.{AreUnrefused, is_unrefused}
 use Rattle.ci_holdings.specs.declared.question.Question.{Question}
 use Rattle.ci_holdings.specs.Open.{AreOpen}
 use Rattle.ci_book.specs.Sheet.{Sheet}
@@ -45,9 +43,6 @@ use Rattle.ci_holdings.proofs.QueueLemmas.{IsQueue-asked, IsQueue-first, IsQueue
 use Rattle.ci_holdings.proofs.ServedLemmas.{StandFor-keeps, StandFor-filtered, StandFor-erased, served_by-numbers}
 
 -- one filing more is served too
-pub AreUnrefused-push : (filed : List Filing) (f : Filing) → AreUnrefused filed → is_unrefused f.fate ≡ true → AreUnrefused (filed ++ f ∷ [])
-AreUnrefused-push filed f all one = All-push (λ (g : Filing). is_unrefused g.fate ≡ true) filed f all one
-
 -- no shadow comes before an event where entries are kept whole
 pub no_shadow : (terms : Terms) (journal : List Event) (by : ℕ) → StartsEmpty terms → shadow_before terms journal by ≡ []
 no_shadow terms journal by starts = rw starts.whole refl
@@ -66,7 +61,6 @@ module _ (terms : Terms) (old : Sheet) (shelf : Shelf) (kept : IsHolding terms o
       let follows : Follows terms old (event by (Asked (shelf.requests + 1) request)) shelf after_ask = record {
         may = record { foreground = foreground; next = next };
         alone = refl;
-        filed = kept.unrefused;
         requests = omega arith;
         replies = omega arith;
         noted = omega arith;
@@ -80,6 +74,7 @@ module _ (terms : Terms) (old : Sheet) (shelf : Shelf) (kept : IsHolding terms o
         notices = sym (append-nil _);
         served = kept.tracks.served;
         charges = kept.tracks.charges;
+        refusals = kept.tracks.refusals;
         retries = refl;
         out = kept.tracks.out;
         stands = kept.stands;
@@ -94,7 +89,6 @@ module _ (terms : Terms) (old : Sheet) (shelf : Shelf) (kept : IsHolding terms o
       let follows : Follows terms old (noted by path (shelf.noted + 1) what) shelf after_note = record {
         may = record { foreground = foreground; scope = refl; next = omega (arith, kept.counts.noted, ap (λ (b : Beginning). b.next) kept.starts.beginning) };
         alone = refl;
-        filed = kept.unrefused;
         requests = omega arith;
         replies = omega arith;
         noted = omega arith;
@@ -107,6 +101,7 @@ module _ (terms : Terms) (old : Sheet) (shelf : Shelf) (kept : IsHolding terms o
         notices = ap (λ (h : HandedIn). h.notices) handed;
         served = ap (λ (h : HandedIn). h.served) handed ∙ kept.tracks.served;
         charges = ap (λ (h : HandedIn). h.charges) handed ∙ kept.tracks.charges;
+        refusals = ap (λ (h : HandedIn). h.refusals) handed ∙ kept.tracks.refusals;
         retries = ap (λ (h : HandedIn). h.retries) handed;
         out = ap (λ (h : HandedIn). h.out) handed ∙ kept.tracks.out;
         stands = kept.stands;
@@ -127,6 +122,12 @@ module _ (terms : Terms) (old : Sheet) (shelf : Shelf) (kept : IsHolding terms o
       ap (λ (h : HandedIn). h.charges) handed ∙ kept.tracks.charges ∙ sym (append-nil (charges_in (fates old.events)))
       ∙ ap (λ o. charges_in (fates old.events) ++ option_to_list o) (sym free) ∙ sym (filter_map-push charge_of (fates old.events) filing)
 
+  -- and isn't a refusal
+  unrefused : (filing : Filing) (after : HandedIn) → refusal_of filing ≡ None → after ≡ with_served shelf.changes filing.path filing.seq → after.refusals ≡ refusals_in (fates old.events ++ filing ∷ [])
+  unrefused filing after free handed =
+      ap (λ (h : HandedIn). h.refusals) handed ∙ kept.tracks.refusals ∙ sym (append-nil (refusals_in (fates old.events)))
+      ∙ ap (λ o. refusals_in (fates old.events) ++ option_to_list o) (sym free) ∙ sym (filter_map-push refusal_of (fates old.events) filing)
+
   -- the number that a path was served under
   pub served_under : (path : List ℕ) → served_number shelf.changes.served path ≡ served_number (served_by terms (fates old.events)).numbers path
   served_under path = ap (λ ns. served_number ns path) (kept.tracks.served ∙ sym (served_by-numbers terms (fates old.events)))
@@ -143,7 +144,6 @@ module _ (terms : Terms) (old : Sheet) (shelf : Shelf) (kept : IsHolding terms o
       let follows : Follows terms old (event by (Put path seq transcript)) shelf after_put = record {
         may = may;
         alone = ap (λ es. es ++ event by (Put path seq transcript) ∷ []) (no_shadow terms old.events by kept.starts);
-        filed = AreUnrefused-push (fates old.events) filing kept.unrefused refl;
         requests = omega arith;
         replies = omega arith;
         noted = omega arith;
@@ -156,6 +156,7 @@ module _ (terms : Terms) (old : Sheet) (shelf : Shelf) (kept : IsHolding terms o
         notices = ap (λ (h : HandedIn). h.notices) handed ∙ sym (append-nil _);
         served = serves filing after refl handed;
         charges = spent filing after refl handed;
+        refusals = unrefused filing after refl handed;
         retries = ap (λ (h : HandedIn). h.retries) handed;
         out = ap (λ (h : HandedIn). h.out) handed ∙ kept.tracks.out;
         stands = subst (λ (s : Served). StandFor s.documents documents) (sym (served_by-push terms (fates old.events) filing))
@@ -175,7 +176,6 @@ module _ (terms : Terms) (old : Sheet) (shelf : Shelf) (kept : IsHolding terms o
       let follows : Follows terms old (event by (Erased path seq)) shelf after_erasing = record {
         may = may;
         alone = ap (λ es. es ++ event by (Erased path seq) ∷ []) (no_shadow terms old.events by kept.starts);
-        filed = AreUnrefused-push (fates old.events) filing kept.unrefused refl;
         requests = omega arith;
         replies = omega arith;
         noted = omega arith;
@@ -188,6 +188,7 @@ module _ (terms : Terms) (old : Sheet) (shelf : Shelf) (kept : IsHolding terms o
         notices = ap (λ (h : HandedIn). h.notices) handed ∙ sym (append-nil _);
         served = serves filing after refl handed;
         charges = spent filing after refl handed;
+        refusals = unrefused filing after refl handed;
         retries = ap (λ (h : HandedIn). h.retries) handed;
         out = ap (λ (h : HandedIn). h.out) handed ∙ kept.tracks.out;
         stands = subst (λ (s : Served). StandFor s.documents documents) (sym (served_by-push terms (fates old.events) filing))
@@ -207,7 +208,6 @@ module _ (terms : Terms) (old : Sheet) (shelf : Shelf) (kept : IsHolding terms o
       let follows : Follows terms old (event by (Opened first.id)) shelf after_opening = record {
         may = (first.tree, is_first);
         alone = refl;
-        filed = kept.unrefused;
         requests = omega arith;
         replies = omega arith;
         noted = omega arith;
@@ -221,6 +221,7 @@ module _ (terms : Terms) (old : Sheet) (shelf : Shelf) (kept : IsHolding terms o
         notices = sym (append-nil _);
         served = kept.tracks.served;
         charges = kept.tracks.charges;
+        refusals = kept.tracks.refusals;
         retries = refl;
         out = kept.tracks.out;
         stands = kept.stands;
@@ -239,7 +240,6 @@ module _ (terms : Terms) (old : Sheet) (shelf : Shelf) (kept : IsHolding terms o
       let follows : Follows terms old (event by (Said id reply)) shelf after_saying = record {
         may = may;
         alone = refl;
-        filed = kept.unrefused;
         requests = omega arith;
         replies = omega arith;
         noted = omega arith;
@@ -252,6 +252,7 @@ module _ (terms : Terms) (old : Sheet) (shelf : Shelf) (kept : IsHolding terms o
         notices = sym (append-nil _);
         served = kept.tracks.served;
         charges = kept.tracks.charges;
+        refusals = kept.tracks.refusals;
         retries = refl;
         out = kept.tracks.out;
         stands = kept.stands;
@@ -265,7 +266,6 @@ module _ (terms : Terms) (old : Sheet) (shelf : Shelf) (kept : IsHolding terms o
       let follows : Follows terms old (event by (Answered id at paths)) shelf after_answering = record {
         may = may;
         alone = refl;
-        filed = kept.unrefused;
         requests = omega arith;
         replies = omega arith;
         noted = omega arith;
@@ -278,6 +278,7 @@ module _ (terms : Terms) (old : Sheet) (shelf : Shelf) (kept : IsHolding terms o
         notices = sym (append-nil _);
         served = kept.tracks.served;
         charges = kept.tracks.charges;
+        refusals = kept.tracks.refusals;
         retries = refl;
         out = kept.tracks.out;
         stands = kept.stands;

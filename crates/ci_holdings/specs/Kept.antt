@@ -5,7 +5,7 @@ use Rattle.ci_journal.specs.declared.event.Event.{Event}
 use Rattle.ci_journal.specs.Daemon.{failures}
 use Rattle.ci_journal.specs.Filings.{batches, fates, out}
 use Rattle.ci_journal.specs.Folds.{requests_in, new_notices, notices, reply_numbers}
-use Rattle.ci_journal.specs.Pending.{charges_in}
+use Rattle.ci_journal.specs.Pending.{charges_in, refusals_in}
 use Rattle.ci_journal.specs.Served.{live_map, served_numbers}
 use Rattle.ci_journal.specs.Step.{Run}
 use Rattle.ci_journal.specs.Terms.{Terms, empty_beginning}
@@ -15,7 +15,6 @@ use Rattle.ci_holdings.specs.declared.waiting.Waiting.{Waiting}
 use Rattle.ci_documents.specs.Documents.{Standings, StandFor}
 use Rattle.ci_book.specs.Book.{IsWithin}
 use Rattle.ci_holdings.specs.Open.{AreOpen}
-use Rattle.ci_holdings.specs.Serving.{AreUnrefused}
 use Rattle.ci_book.specs.Sheet.{Sheet}
 use Rattle.ci_holdings.specs.Waiting.{IsQueue, Marks, MarksReplies}
 
@@ -41,12 +40,13 @@ pub record StartsEmpty (terms : Terms) : Type 0 where
   pub whole : terms.in_lists ≡ false
   pub retries : terms.retries ≢ 0
 
--- the change list has what the journal tells: its notices, what was served, the attempts that were spent, and the
--- batches that are out
+-- the change list has what the journal tells: its notices, what was served, the attempts that were spent, the
+-- refusals, and the batches that are out
 pub record Tracks (terms : Terms) (events : List Event) (changes : HandedIn) : Type 0 where
   pub notices : changes.notices ≡ notices terms events
   pub served : changes.served ≡ served_numbers terms events
   pub charges : changes.charges ≡ charges_in (fates events)
+  pub refusals : changes.refusals ≡ refusals_in (fates events)
   pub out : changes.out ≡ out events
   pub retries : changes.retries ≡ terms.retries
 
@@ -67,7 +67,6 @@ pub record IsHolding (terms : Terms) (sheet : Sheet) (shelf : Shelf) : Type 0 wh
   pub within : IsWithin sheet.limit sheet.events
   pub room : length (out sheet.events) ≤ sheet.spare
   pub small : sheet.limit ≤ JOURNAL_MOST
-  pub unrefused : AreUnrefused (fates sheet.events)
   pub counts : Counts sheet.events shelf
   pub waits : IsQueue terms sheet.events shelf.waiting
   pub opened : AreOpen terms sheet.events shelf.questions

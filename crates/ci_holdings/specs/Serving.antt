@@ -1,46 +1,55 @@
--- Documents of a batch that are served, one after the other.
-use Rattle.std.specs.Prelude.{⊤, All, ◌≡◌, ◌++◌, ℕ, Bool, true, false, nat_lt, List, [], ◌∷◌, if◌then◌else◌}
+-- Documents of a batch whose outcomes are filed, one after the other.
+use Rattle.std.specs.Prelude.{◌≡◌, ◌++◌, ℕ, Bool, nat_lt, List, [], ◌∷◌, if◌then◌else◌}
 use Rattle.std.specs.FinMap as map_of_keys
 use Rattle.ci_base.specs.declared.numbers.Seq.{Seq}
+use Rattle.ci_change.specs.Charges.{with_charge, with_refusal}
+use Rattle.ci_change.specs.HandedIn.{HandedIn, with_served}
 use Rattle.ci_change.specs.Pending.{served_number}
 use Rattle.ci_entry.specs.Entry.{entry_of}
 use Rattle.ci_chunk.specs.declared.outcome.Outcome.{Outcome}
-use Rattle.ci_chunk.specs.declared.outcome.Outcome.TheVariants.{Done}
-use Rattle.ci_keys.specs.Entry.{EntryLists}
-use Rattle.ci_journal.specs.Tells.{Fate, Filing}
-use Rattle.ci_journal.specs.Tells.Fate.{Refused}
+use Rattle.ci_chunk.specs.declared.outcome.Outcome.TheVariants as outcome
+use Rattle.ci_documents.specs.Documents.{Serves, Standings}
 use Rattle.ci_journal.specs.Terms.{Served}
+use Rattle.ci_holdings.specs.declared.serving.Verdict.{Verdict}
+use Rattle.ci_holdings.specs.declared.serving.Verdict.TheVariants.{Filtered, Failed, Refused}
 
--- the document was read to its end; what failed or was refused isn't taken yet
-abbrev pub IsDone : Outcome → Type 0
-IsDone (Done transcript) = ⊤
-IsDone _ = ⊥
+-- what an outcome comes to: the entry of what was read, an attempt that failed, or a refusal
+abbrev pub verdict_of : List (List ℕ) → Outcome → Verdict
+verdict_of noise (outcome.Done transcript) = Filtered (entry_of noise transcript)
+verdict_of noise (outcome.Failed status) = Failed
+verdict_of noise (outcome.Refused status) = Refused
 
--- a document was filtered or taken away, or an attempt was spent on it; none is refused yet
-abbrev pub is_unrefused : Fate → Bool
-is_unrefused Refused = false
-is_unrefused _ = true
+-- what became of a document is handed in: it was served, or a charge or a refusal
+abbrev pub tell : HandedIn → List ℕ × Seq → Verdict → HandedIn
+tell handed doc (Filtered entry) = with_served handed doc.0 doc.1
+tell handed doc Failed = with_charge handed doc.0 doc.1
+tell handed doc Refused = with_refusal handed doc.0 doc.1
 
-abbrev pub AreUnrefused : List Filing → Type 0
-AreUnrefused filed = All (λ f. is_unrefused f.fate ≡ true) filed
+-- of each document, in order
+abbrev pub tell_all : HandedIn → List (List ℕ × Seq) → List Verdict → HandedIn
+tell_all handed [] verdicts = handed
+tell_all handed (doc ∷ docs) [] = handed
+tell_all handed (doc ∷ docs) (verdict ∷ verdicts) = tell_all (tell handed doc verdict) docs verdicts
 
--- the entry that an outcome comes to
-abbrev pub entry_from : List (List ℕ) → Outcome → EntryLists
-entry_from noise (Done transcript) = entry_of noise transcript
-entry_from noise _ = entry_of noise []
-
--- the path gets the entry, where its number is above the path's served number
-abbrev pub serve_entry : Served → List ℕ × Seq → EntryLists → Served
-serve_entry served doc entry = record {
+-- the path gets the entry, where its number is above the path's served number; one that wasn't
+-- filtered keeps the entry that it has
+abbrev pub settle : Served → List ℕ × Seq → Verdict → Served
+settle served doc (Filtered entry) = record {
   numbers = served.numbers ++ doc ∷ [];
   documents = if nat_lt (served_number served.numbers doc.0) doc.1.0
       then map_of_keys.insert served.documents doc.0 entry
       else served.documents;
 }
+settle served doc _ = served
 
--- each document with its entry, in order
-abbrev pub serve_entries : Served → List (List ℕ × Seq) → List EntryLists → Served
-serve_entries served [] entries = served
-serve_entries served (doc ∷ docs) [] = served
-serve_entries served (doc ∷ docs) (entry ∷ entries) =
-    serve_entries (serve_entry served doc entry) docs entries
+-- each document with its verdict, in order
+abbrev pub settle_all : Served → List (List ℕ × Seq) → List Verdict → Served
+settle_all served [] verdicts = served
+settle_all served (doc ∷ docs) [] = served
+settle_all served (doc ∷ docs) (verdict ∷ verdicts) =
+    settle_all (settle served doc verdict) docs verdicts
+
+-- the standing of a path, where its number counts, becomes the entry; or nothing changes
+abbrev pub IsSettledBy : Standings → Standings → List ℕ → Bool → Verdict → Type 0
+IsSettledBy old new path counts (Filtered entry) = Serves old new path counts entry
+IsSettledBy old new path counts _ = new ≡ old

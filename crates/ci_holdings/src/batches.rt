@@ -1,14 +1,13 @@
-ghost use Rattle.std.specs.Prelude.{◌≡◌, ◌<◌, ◌≤◌, [], drop, length, take, All, IfOk, IfErr, OnOk};
+ghost use Rattle.std.specs.Prelude.{◌≡◌, ◌<◌, ◌≤◌, [], drop, length, take, IfOk, IfErr, OnOk};
 ghost use Rattle.ci_journal.specs.Bytes.{capped, event_bytes};
 ghost use Rattle.ci_holdings.specs.Batches.{Begins, CanFinish, HaltsBeginning};
 ghost use Rattle.ci_journal.specs.Tells.{event};
 ghost use Rattle.ci_book.specs.Changes.{IsReady, LacksRoom};
 ghost use Rattle.ci_holdings.specs.Refusals.{Tries};
-ghost use Rattle.ci_holdings.specs.Serving.{IsDone};
 ghost use Rattle.ci_holdings.specs.Steps.{Charges, Ends, KeepsMap};
 ghost use Rattle.ci_journal.specs.Step.{MayEnd};
 
-use crate::serving::{entries_of, make_places, serve_all};
+use crate::serving::{make_places, settle_all, verdicts_of};
 use crate::{Holdings, Unbegun};
 use ci_book::{Book, CoreFault};
 use ci_change::Batch;
@@ -46,22 +45,22 @@ impl<K: Sink + Drop> Holdings<K> {
         }
     }
 
-    /// The batch is out no more, and each of its documents has its outcome.
+    /// The batch is out no more, and each of its documents has its outcome: its entry, an attempt that
+    /// failed, or a refusal.
     pub fn finish(&mut self, by: u32, batch: &Batch, outcomes: Outcomes) -> Result<(), CoreFault>
-        requires may { CanFinish self.old.sheet.events by batch.now outcomes }
-        requires done { All IsDone outcomes }
+        requires { CanFinish self.old.sheet.events by batch.now outcomes }
         ensures step { Tries self.old self.new
             (event by (Happened.BatchDone batch.now.number outcomes)) result }
     {
         self.book
             .prepare(self.places, done_bytes(outcomes.items()))?;
-        let entries = entries_of(self.alloc, outcomes.items(), &self.noise)?;
+        let verdicts = verdicts_of(self.alloc, outcomes.items(), &self.noise)?;
         make_places(self.alloc, &mut self.documents, batch.docs.items())?;
-        serve_all(
+        settle_all(
             &mut self.changes,
             &mut self.documents,
             batch.docs.items(),
-            entries,
+            verdicts,
         );
         self.changes.give_back(batch);
         self.places -= 1;

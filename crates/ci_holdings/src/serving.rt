@@ -1,9 +1,9 @@
-ghost use Rattle.std.specs.Prelude.{◌≡◌, ◌++◌, true, nat_lt, length, map, All, IsTrue, IfOk, OnOk};
+ghost use Rattle.std.specs.Prelude.{◌≡◌, true, nat_lt, length, map, All, IsTrue, IfOk, OnOk};
 ghost use Rattle.ci_change.specs.HandedIn.{is_known, with_served};
 ghost use Rattle.ci_change.specs.Pending.{served_number};
 ghost use Rattle.ci_documents.specs.Documents.{KeepsEntries, Serves, StandFor, has_place};
 ghost use Rattle.ci_journal.specs.Terms.{Served};
-ghost use Rattle.ci_holdings.specs.Serving.{IsDone, entry_from, serve_entries};
+ghost use Rattle.ci_holdings.specs.Serving.{IsSettledBy, settle_all, tell, tell_all, verdict_of};
 
 use ci_base::{OutOfMemory, PathText, Seq};
 use ci_change::ChangeList;
@@ -14,33 +14,39 @@ use ci_words::NoiseList;
 use std::alloc::Global;
 use std::collections::VecDeque;
 
-/// The entries that outcomes come to, in order.
-pub fn entries_of(
+/// What an outcome comes to: the entry of what was read, an attempt that failed, or a refusal.
+#[derive(Drop)]
+pub enum Verdict {
+    Filtered(SharedEntry),
+    Failed,
+    Refused,
+}
+
+/// What outcomes come to, in order.
+pub fn verdicts_of(
     alloc: Global,
     outcomes: &[Outcome],
     noise: &NoiseList,
-) -> Result<VecDeque<SharedEntry>, OutOfMemory>
-    requires { All IsDone outcomes.now }
-    ensures { IfOk result (λ entries. entries.items ≡ map (entry_from noise.now) outcomes.now) }
+) -> Result<VecDeque<Verdict>, OutOfMemory>
+    ensures { IfOk result (λ verdicts. verdicts.items ≡ map (verdict_of noise.now) outcomes.now) }
 {
-    let mut entries = VecDeque::new(alloc);
+    let mut verdicts = VecDeque::new(alloc);
     for outcome in outcomes {
-        entries.push_back(filtered(alloc, outcome, noise)?)?;
+        verdicts.push_back(verdict_of(alloc, outcome, noise)?)?;
     }
-    Ok(entries)
+    Ok(verdicts)
 }
 
-fn filtered(alloc: Global, outcome: &Outcome, noise: &NoiseList) -> Result<SharedEntry, OutOfMemory>
-    requires { IsDone outcome.now }
-    ensures { IfOk result (λ entry. entry ≡ entry_from noise.now outcome.now) }
+fn verdict_of(alloc: Global, outcome: &Outcome, noise: &NoiseList) -> Result<Verdict, OutOfMemory>
+    ensures { IfOk result (λ verdict. verdict ≡ verdict_of noise.now outcome.now) }
 {
     match outcome {
         Outcome::Done(transcript) => {
             let entry = entry_of(alloc, transcript, noise)?;
-            SharedEntry::new(alloc, entry)
+            Ok(Verdict::Filtered(SharedEntry::new(alloc, entry)?))
         }
-        Outcome::Failed(_) => unreachable!(),
-        Outcome::Refused(_) => unreachable!(),
+        Outcome::Failed(_) => Ok(Verdict::Failed),
+        Outcome::Refused(_) => Ok(Verdict::Refused),
     }
 }
 
@@ -60,28 +66,48 @@ pub fn make_places(
     Ok(())
 }
 
-/// Serves each document with its entry, in the room that was made for them.
-pub fn serve_all(
+/// IsSettledBy each document by its verdict, in the room that was made for its entry.
+pub fn settle_all(
     changes: &mut ChangeList,
     documents: &mut Documents,
     docs: &[(PathText, Seq)],
-    entries: VecDeque<SharedEntry>,
+    verdicts: VecDeque<Verdict>,
 )
-    requires each { length docs.now ≡ length entries.items }
+    requires each { length docs.now ≡ length verdicts.items }
     requires known { All (λ doc. IsTrue (is_known changes.old doc.0)) docs.now }
     requires places { All (λ doc. has_place documents.old.entries doc.0 ≡ true) docs.now }
-    ensures changes { changes.new
-        ≡ record changes.old { served = changes.old.served ++ docs.now } }
+    ensures changes { changes.new ≡ tell_all changes.old docs.now verdicts.items }
     ensures stands { (served : Served) → served.numbers ≡ changes.old.served →
         StandFor served.documents documents.old.entries →
-        StandFor (serve_entries served docs.now entries.items).documents documents.new.entries }
+        StandFor (settle_all served docs.now verdicts.items).documents documents.new.entries }
 {
-    let mut entries = entries;
+    let mut verdicts = verdicts;
     for (path, seq) in docs {
-        let Some(entry) = entries.pop_front() else {
+        let Some(verdict) = verdicts.pop_front() else {
             unreachable!()
         };
-        serve_one(changes, documents, path, *seq, entry);
+        settle(changes, documents, path, *seq, verdict);
+    }
+}
+
+// An attempt that failed and a refusal leave the path the entry that it has.
+fn settle(
+    changes: &mut ChangeList,
+    documents: &mut Documents,
+    path: &PathText,
+    seq: Seq,
+    verdict: Verdict,
+)
+    requires known { IsTrue (is_known changes.old path.now) }
+    requires place { has_place documents.old.entries path.now ≡ true }
+    ensures changes { changes.new ≡ tell changes.old (path.now, seq) verdict }
+    ensures settles { let counts = nat_lt (served_number changes.old.served path.now) seq.0 in
+        IsSettledBy documents.old.entries documents.new.entries path.now counts verdict }
+{
+    match verdict {
+        Verdict::Filtered(entry) => serve_one(changes, documents, path, seq, entry),
+        Verdict::Failed => changes.charge(path, seq),
+        Verdict::Refused => changes.refuse(path, seq),
     }
 }
 

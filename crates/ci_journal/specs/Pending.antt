@@ -1,9 +1,9 @@
 -- Which notices are pending, which documents are set aside as unfiltered, and which a batch may take.
-use Rattle.std.specs.Prelude.{◌==◌, ◌&&◌, ◌||◌, not, ℕ, Bool, true, false, List, Option, Some, None, bytes_eq, filter, filter_map}
-use Rattle.std.specs.List.{list_any}
+use Rattle.std.specs.Prelude.{not, ℕ, Bool, List, Option, Some, None, filter, filter_map}
 use Rattle.ci_base.specs.declared.numbers.Seq.{Seq}
 use Rattle.ci_change.specs.declared.notice.Notice.{Notice}
-use Rattle.ci_change.specs.Pending.{unserved_of, is_free, is_changed, is_spent}
+use Rattle.ci_change.specs.Pending as change
+use Rattle.ci_change.specs.Pending.{unserved_of, is_free, is_changed}
 use Rattle.ci_journal.specs.declared.event.Event.{Event}
 use Rattle.ci_journal.specs.Tells.{Fate, Filing}
 use Rattle.ci_journal.specs.Tells.Fate.{Charged, Refused}
@@ -28,18 +28,21 @@ charge_of f = charge_under (f.path, f.seq) f.fate
 abbrev pub charges_in : List Filing → List (List ℕ × Seq)
 charges_in filed = filter_map charge_of filed
 
--- the fate is of this notice
-abbrev pub is_under : Notice → Filing → Bool
-is_under notice f = bytes_eq f.path notice.path && f.seq.0 == notice.seq.0
+-- the document whose fate is a refusal
+abbrev pub refusal_under : List ℕ × Seq → Fate → Option (List ℕ × Seq)
+refusal_under doc Refused = Some doc
+refusal_under doc _ = None
 
-abbrev pub is_refusal : Fate → Bool
-is_refusal Refused = true
-is_refusal _ = false
+abbrev pub refusal_of : Filing → Option (List ℕ × Seq)
+refusal_of f = refusal_under (f.path, f.seq) f.fate
 
--- its attempts are spent, or its filter refused it
+-- the refusals among the fates
+abbrev pub refusals_in : List Filing → List (List ℕ × Seq)
+refusals_in filed = filter_map refusal_of filed
+
+-- its filter refused it, or its attempts are spent
 abbrev pub is_set_aside : ℕ → List Filing → Notice → Bool
-is_set_aside retries filed notice =
-    list_any (λ f. is_under notice f && is_refusal f.fate) filed || is_spent retries (charges_in filed) notice
+is_set_aside retries filed notice = change.is_set_aside retries (charges_in filed) (refusals_in filed) notice
 
 abbrev pub is_unfiltered : Terms → List Event → Notice → Bool
 is_unfiltered terms journal notice = is_set_aside terms.retries (fates journal) notice

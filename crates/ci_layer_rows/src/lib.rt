@@ -18,6 +18,8 @@ mod paths;
 #[cfg(test)]
 mod table;
 #[cfg(test)]
+mod trials;
+#[cfg(test)]
 mod varints;
 #[cfg(test)]
 mod words;

@@ -1,7 +1,7 @@
 -- A document that is being read has a piece for each chunk at most, and no more text than was counted: it is within the bounds of a transcript.
-use Rattle.std.proofs.Common.{◌≡◌, ℕ, Bool, true, false, ◌+◌, ◌-◌, ◌<◌, ◌≤◌, ◌++◌, ◌==◌, ◌&&◌, ◌||◌, List, [], ◌∷◌, Option, Some, None, length, ap, sym, ◌∙◌, arith, append-nil, length-append, nat_lt, cond, inl, inr}
+use Rattle.std.proofs.Common.{◌≡◌, ℕ, Bool, true, false, ◌+◌, ◌-◌, ◌<◌, ◌≤◌, ◌++◌, ◌==◌, ◌&&◌, List, [], ◌∷◌, Option, None, length, ap, sym, ◌∙◌, arith, append-nil, length-append, nat_lt, cond, inl, inr}
 use Rattle.std.proofs.lemmas.Bool.{cases_lt, le-ltb, lt-ltb}
-use Rattle.std.proofs.lemmas.List.Sums.{sum_by-append, sum_by-cons}
+use Rattle.std.proofs.lemmas.List.Sums.{sum_by-append}
 use Rattle.ci_base.specs.declared.value.Value.{Value as Held}
 use Rattle.ci_chunk.specs.Sizes.{IsBounded, piece_length, text_length}
 use Rattle.ci_chunk.specs.Talk.{Talk}
@@ -16,7 +16,7 @@ use Rattle.ci_chunk.specs.declared.talk.Call.{Call}
 use Rattle.ci_chunk.specs.declared.talk.Call.TheVariants.{Init, GetChunk, GetText, GetValue}
 use Rattle.ci_link.specs.Document.{Stands}
 use Rattle.ci_link.specs.Pieces.{asks_chunk, before_text, bytes_in, bytes_of_value, chunks_of, piece_in, piece_of, pieces_of, size_of, text_of}
-use Rattle.ci_link.specs.Reading.{Answered, Ask, Done, Illegal, IsBegun, Next, Opening, after, after_chunk, clip_bytes, clip_chunks, cut_text, or_done, text_call}
+use Rattle.ci_link.specs.Reading.{Answered, Ask, Ends, Illegal, IsBegun, Next, Opening, after, after_chunk, clip_bytes, clip_chunks, cut_text, done, or_done, text_call}
 use Rattle.ci_link.specs.declared.document.Document.{Document}
 use Rattle.ci_link.specs.declared.stage.Stage.TheVariants.{Text, Value}
 use Rattle.ci_link.proofs.PiecesLemmas.{chunks_of-push, size_of-push}
@@ -65,7 +65,7 @@ short-pieces (e ∷ rest) = omega (arith, sum_by-append piece_length (piece_in e
 
 never-asks : (pieces : List Piece) (next : Next) (call : Call) → or_done pieces next ≡ Ask call → ⊥
 never-asks pieces (Ask _) call e = (let f = e in cc)
-never-asks pieces (Done _) call e = (let f = e in cc)
+never-asks pieces (Ends _) call e = (let f = e in cc)
 never-asks pieces Illegal call e = (let f = e in cc)
 
 -- a document that goes on has asked for fewer chunks than it may
@@ -81,9 +81,9 @@ few-asked before (Init _ _) answer next asks few = omega (arith, few)
 few-asked before (GetText _) answer next asks few = omega (arith, few)
 few-asked before GetValue answer next asks few = omega (arith, few)
 
-never-passes : (bytes : ℕ) (pieces : List Piece) (rest : Next) (call : Call) → cond (nat_lt clip_bytes bytes) (Done pieces) rest ≡ Ask call → bytes ≤ clip_bytes
+never-passes : (bytes : ℕ) (pieces : List Piece) (rest : Next) (call : Call) → cond (nat_lt clip_bytes bytes) (done pieces) rest ≡ Ask call → bytes ≤ clip_bytes
 never-passes bytes pieces rest call asks = elim (cases_lt clip_bytes bytes) [
-  | inl over ↦ (let done : Done pieces ≡ Ask call = sym (ap (λ b. cond b (Done pieces) rest) (lt-ltb clip_bytes bytes over)) ∙ asks in cc)
+  | inl over ↦ (let ended : done pieces ≡ Ask call = sym (ap (λ b. cond b (done pieces) rest) (lt-ltb clip_bytes bytes over)) ∙ asks in cc)
   | inr within ↦ within
 ]
 

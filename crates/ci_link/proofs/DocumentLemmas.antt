@@ -1,5 +1,5 @@
 -- A reader that heard one answer more stands behind it.
-use Rattle.std.proofs.Common.{◌≡◌, ℕ, true, false, ◌+◌, ◌^◌, ◌<◌, ◌≤◌, ◌++◌, ◌==◌, ◌&&◌, ◌||◌, List, [], ◌∷◌, Some, None, length, refl, ap, sym, ◌∙◌, arith, append_assoc, append-nil, nat_lt, cond, inl, inr}
+use Rattle.std.proofs.Common.{◌≡◌, ℕ, Bool, true, false, ◌+◌, ◌^◌, ◌<◌, ◌≤◌, ◌++◌, ◌==◌, ◌&&◌, ◌||◌, List, [], ◌∷◌, Some, None, length, refl, ap, sym, ◌∙◌, arith, append_assoc, append-nil, nat_lt, cond, inl, inr}
 use Rattle.std.specs.List.{list_all}
 use Rattle.std.proofs.lemmas.Bool.{cases_lt, lt-ltb, le-ltb, ltb-true, and_parts, and_from, and_right}
 use Rattle.std.proofs.Math.Bool.{and-true}
@@ -8,6 +8,7 @@ use Rattle.ci_chunk.specs.Talk.{Talk}
 use Rattle.ci_chunk.specs.declared.chunk.ChunkState.{ChunkState}
 use Rattle.ci_chunk.specs.declared.chunk.ChunkState.TheVariants.{Text as HasText, Value as HasValue, FilterOwnedValue}
 use Rattle.ci_chunk.specs.declared.chunk.StatChunk.{StatChunk}
+use Rattle.ci_chunk.specs.declared.outcome.Outcome.TheVariants.{Failed, Refused}
 use Rattle.ci_chunk.specs.declared.piece.Piece.{Piece}
 use Rattle.ci_chunk.specs.declared.piece.Piece.TheVariants as piece
 use Rattle.ci_chunk.specs.declared.status.Status.{Status as Code}
@@ -17,7 +18,7 @@ use Rattle.ci_chunk.specs.declared.talk.Call.{Call}
 use Rattle.ci_chunk.specs.declared.talk.Call.TheVariants.{GetChunk, GetValue}
 use Rattle.ci_link.specs.Document.{Hears, Keeps, Stands, asked, counted, is_above, stage_for}
 use Rattle.ci_link.specs.Pieces.{asks_chunk, bytes_in, bytes_of_value, chunks_of, id_in, ids_of, piece_of, pieces_of, size_of, text_of}
-use Rattle.ci_link.specs.Reading.{Answered, Ask, Done as Finished, after, after_chunk, after_counted, after_state, clip_bytes, clip_chunks, init_call, or_done, text_call}
+use Rattle.ci_link.specs.Reading.{Answered, Ask, Ends, Illegal, done as Finished, after, after_chunk, after_counted, after_state, after_status, clip_bytes, clip_chunks, init_call, or_done, text_call}
 use Rattle.ci_link.specs.declared.document.Document.{Document}
 use Rattle.ci_link.specs.declared.stage.Stage.TheVariants.{Opening, Chunks, Text, Value}
 use Rattle.ci_link.proofs.PiecesLemmas.{chunks_of-push, ids_of-push, pieces_of-chunk, size_of-push}
@@ -217,3 +218,33 @@ done_value path document talk chunk value pieces status stands over ended =
 -- a status that isn't a failing one
 pub passes_from : (n : ℕ) → (2 ^ 31 ≤ n → false ≡ true) → n < 2 ^ 31
 passes_from n never = elim (cases_lt n (2 ^ 31)) [ inl below ↦ below | inr above ↦ (let f = never above in cc) ]
+
+-- ---- a status that tells its call nothing of its own
+
+or_done-status : (pieces : List Piece) (status : Code) → or_done pieces (after_status status) ≡ after_status status
+or_done-status pieces status = by ((status.0 == 0x8004170B) || (status.0 == 0x8004170C)) (nat_lt status.0 (2 ^ 31))
+  where
+    by : (refuses passes : Bool) → or_done pieces (cond refuses (Ends (Refused status)) (cond passes Illegal (Ends (Failed status)))) ≡ cond refuses (Ends (Refused status)) (cond passes Illegal (Ends (Failed status)))
+    by true passes = refl
+    by false true = refl
+    by false false = refl
+
+pub status_opening : (path : List ℕ) (talk : Talk) (status : Code) → 2 ^ 31 ≤ status.0 → after talk (init_call path) (said.Status status) ≡ after_status status
+status_opening path talk status failing = rw (le-ltb status.0 (2 ^ 31) failing) refl
+
+pub status_chunk : (talk : Talk) (status : Code) → (status.0 == 0x80041700) ≡ false → ((status.0 == 0x80041707) || (status.0 == 0x80041708)) ≡ false
+    → after talk GetChunk (said.Status status) ≡ after_status status
+status_chunk talk status isnt none = by (nat_lt (chunks_of talk + 1) clip_chunks)
+  where
+    own : after_chunk talk (said.Status status) ≡ after_status status
+    own = rw (isnt, none) refl
+
+    by : (fewer : Bool) → cond fewer (after_chunk talk (said.Status status)) (or_done (pieces_of talk) (after_chunk talk (said.Status status))) ≡ after_status status
+    by true = own
+    by false = ap (λ n. or_done (pieces_of talk) n) own ∙ or_done-status (pieces_of talk) status
+
+pub status_text : (talk : Talk) (status : Code) → ((status.0 == 0x80041701) || (status.0 == 0x80041705)) ≡ false → after talk text_call (said.Status status) ≡ after_status status
+status_text talk status none = rw none refl
+
+pub status_value : (talk : Talk) (status : Code) → ((status.0 == 0x80041702) || (status.0 == 0x80041706)) ≡ false → after talk GetValue (said.Status status) ≡ after_status status
+status_value talk status none = rw none refl

@@ -5,7 +5,7 @@ use Rattle.std.specs.Io.KnownBytes.{Appends}
 use Rattle.std.proofs.KnownBytes.{Appends-nil, Appends-trans}
 use Rattle.ci_base.specs.declared.numbers.Seq.{Seq}
 use Rattle.ci_chunk.specs.Talk.{Talk}
-use Rattle.ci_chunk.specs.declared.piece.Piece.{Piece}
+use Rattle.ci_chunk.specs.declared.outcome.Outcome.{Outcome}
 use Rattle.ci_chunk.specs.declared.talk.Answer.{Answer as Said}
 use Rattle.ci_chunk.specs.declared.talk.Call.{Call as Asked}
 use Rattle.ci_wire.specs.Frame.{frame_spelling}
@@ -125,8 +125,8 @@ out_hearing a b c path document talk call answer stands is before one = record {
 }
 
 -- the outcome of a document that was read wasn't kept: as if memory had run out when its last answer was heard
-pub out_reading : (a b : Speaking) (path : List ℕ) (pieces : List Piece) → Reads a b path pieces → RunsOutWithin a b path
-out_reading a b path pieces p = record {
+pub out_reading : (a b : Speaking) (path : List ℕ) (outcome : Outcome) → Reads a b path outcome → RunsOutWithin a b path
+out_reading a b path outcome p = record {
   talk = p.read.before;
   call = p.read.call;
   begun = p.read.begun;

@@ -6,17 +6,15 @@ use Rattle.std.proofs.lemmas.Option.{slice_get_read}
 use Rattle.std.proofs.lemmas.Grind.{flat_map-append}
 use Rattle.ci_base.specs.declared.numbers.Seq.{Seq}
 use Rattle.ci_chunk.specs.Talk.{Talk}
-use Rattle.ci_chunk.specs.declared.piece.Piece.{Piece}
 use Rattle.ci_chunk.specs.declared.talk.Answer.{Answer}
 use Rattle.ci_chunk.specs.declared.talk.Call.{Call}
 use Rattle.ci_link.specs.Document.{Stands, asked}
 use Rattle.ci_link.specs.Line.{Exchanges, Speaking, Unanswered}
 use Rattle.ci_link.specs.Reading.{IsBegun, IsRead, after}
 use Rattle.ci_link.specs.Reading as reading
-use Rattle.ci_link.specs.Talking.{AreRead, DiesAt, DiesWithin, HasOutcome, Reads, joined}
+use Rattle.ci_link.specs.Talking.{AreRead, DiesAt, DiesWithin, Reads, joined}
 use Rattle.ci_link.specs.declared.document.Document.{Document}
 use Rattle.ci_chunk.specs.declared.outcome.Outcome.{Outcome}
-use Rattle.ci_chunk.specs.declared.outcome.Outcome.TheVariants.{Done}
 use Rattle.ci_link.proofs.LineLemmas.{dies_behind, dies_illegal, dies_unanswered, exchanges_join, exchanges_none}
 
 -- a document's next call got no answer
@@ -41,10 +39,10 @@ illegal_within a b c path document talk call answer stands is before one illegal
 }
 
 -- or the last one
-pub reads_done : (a b c : Speaking) (path : List ℕ) (document : Document) (talk : Talk) (call : Call) (answer : Answer) (pieces : List Piece)
+pub reads_done : (a b c : Speaking) (path : List ℕ) (document : Document) (talk : Talk) (call : Call) (answer : Answer) (outcome : Outcome)
     → Stands path document talk → call ≡ asked path document.stage → Exchanges a b talk → Exchanges b c ((call, answer) ∷ [])
-    → reading.after talk (asked path document.stage) answer ≡ reading.Done pieces → Reads a c path pieces
-reads_done a b c path document talk call answer pieces stands is before one done = record {
+    → reading.after talk (asked path document.stage) answer ≡ reading.Ends outcome → Reads a c path outcome
+reads_done a b c path document talk call answer outcome stands is before one ends = record {
   talk = talk ++ (call, answer) ∷ [];
   read = record {
     before = talk;
@@ -52,7 +50,7 @@ reads_done a b c path document talk call answer pieces stands is before one done
     answer = answer;
     whole = refl;
     begun = (let P : Call → Type 0 = λ x. IsBegun path talk x in subst P (sym is) stands.begun);
-    done = ap (λ x. reading.after talk x answer) is ∙ done;
+    ends = ap (λ x. reading.after talk x answer) is ∙ ends;
   };
   exchanged = exchanges_join a b c talk ((call, answer) ∷ []) before one;
 }
@@ -77,7 +75,7 @@ pub so_far_none : (state : Speaking) → SoFar state state [] []
 so_far_none state = record { talks = []; read = tt; exchanged = exchanges_none state }
 
 are_read_push : (docs : List (List ℕ × Seq)) (talks : List Talk) (outcomes : List Outcome) (doc : List ℕ × Seq) (talk : Talk) (outcome : Outcome)
-    → AreRead docs talks outcomes → HasOutcome doc.0 talk outcome → AreRead (docs ++ doc ∷ []) (talks ++ talk ∷ []) (outcomes ++ outcome ∷ [])
+    → AreRead docs talks outcomes → IsRead doc.0 talk outcome → AreRead (docs ++ doc ∷ []) (talks ++ talk ∷ []) (outcomes ++ outcome ∷ [])
 are_read_push [] [] [] doc talk outcome read one = (one, tt)
 are_read_push (d ∷ docs) (t ∷ talks) (o ∷ outcomes) doc talk outcome read one = (read.0, are_read_push docs talks outcomes doc talk outcome read.1 one)
 are_read_push [] [] (o ∷ outcomes) doc talk outcome read one = absurd read
@@ -86,11 +84,11 @@ are_read_push (d ∷ docs) [] outcomes doc talk outcome read one = absurd read
 are_read_push (d ∷ docs) (t ∷ talks) [] doc talk outcome read one = absurd read
 
 -- and then one more
-pub so_far_push : (a b c : Speaking) (docs : List (List ℕ × Seq)) (outcomes : List Outcome) (doc : List ℕ × Seq) (pieces : List Piece)
-    → SoFar a b docs outcomes → Reads b c doc.0 pieces → SoFar a c (docs ++ doc ∷ []) (outcomes ++ Done pieces ∷ [])
-so_far_push a b c docs outcomes doc pieces p q = record {
+pub so_far_push : (a b c : Speaking) (docs : List (List ℕ × Seq)) (outcomes : List Outcome) (doc : List ℕ × Seq) (outcome : Outcome)
+    → SoFar a b docs outcomes → Reads b c doc.0 outcome → SoFar a c (docs ++ doc ∷ []) (outcomes ++ outcome ∷ [])
+so_far_push a b c docs outcomes doc outcome p q = record {
   talks = p.talks ++ q.talk ∷ [];
-  read = are_read_push docs p.talks outcomes doc q.talk (Done pieces) p.read q.read;
+  read = are_read_push docs p.talks outcomes doc q.talk outcome p.read q.read;
   exchanged = (let P : Talk → Type 0 = λ t. Exchanges a c t in
       subst P (sym (flat_map-append (λ talk. talk) p.talks (q.talk ∷ []) ∙ ap (λ t. joined p.talks ++ t) (append-nil q.talk)))
       (exchanges_join a b c (joined p.talks) q.talk p.exchanged q.exchanged));

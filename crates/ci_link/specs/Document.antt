@@ -14,7 +14,8 @@ use Rattle.ci_link.specs.Pieces.{chunks_of, ids_of, pieces_of, size_of, text_of,
 use Rattle.ci_link.specs.Reading as reading
 use Rattle.ci_link.specs.declared.document.Document.{Document}
 use Rattle.ci_link.specs.declared.document.Next.{Next}
-use Rattle.ci_link.specs.declared.document.Next.TheVariants.{Ask, Done, Illegal}
+use Rattle.ci_chunk.specs.declared.outcome.Outcome.TheVariants.{Done}
+use Rattle.ci_link.specs.declared.document.Next.TheVariants.{Ask, Ends, Illegal}
 use Rattle.ci_link.specs.declared.stage.Stage.{Stage}
 use Rattle.ci_link.specs.declared.stage.Stage.TheVariants.{Opening, Chunks, Text, Value}
 
@@ -49,7 +50,7 @@ stage_for chunk FilterOwnedValue = Chunks
 abbrev pub counted : Document → Next
 counted document =
     if nat_lt (document.chunks + 1) reading.clip_chunks then Ask (record document { chunks = document.chunks + 1 })
-    else Done document.pieces
+    else Ends (Done document.pieces)
 
 -- the reader stands where these exchanges lead
 pub record Stands (path : List ℕ) (document : Document) (talk : Talk) : Type 0 where
@@ -59,10 +60,10 @@ pub record Stands (path : List ℕ) (document : Document) (talk : Talk) : Type 0
   pub last : (id : ℕ) → list_all (λ other. nat_lt other id) (ids_of talk) ≡ is_above document.last id
   pub pieces : Keeps talk document.pieces document.stage
 
--- the answer was heard: the reader stands behind it, or the document is done, or the answer isn't legal
+-- the answer was heard: the reader stands behind it, or the document has its outcome, or the answer isn't legal
 abbrev pub Hears : List ℕ → Talk → Call → Answer → Next → Type 0
 Hears path talk call answer (Ask document) = Stands path document (talk ++ (call, answer) ∷ [])
-Hears path talk call answer (Done pieces) = reading.after talk call answer ≡ reading.Done pieces
+Hears path talk call answer (Ends outcome) = reading.after talk call answer ≡ reading.Ends outcome
 Hears path talk call answer Illegal = reading.after talk call answer ≡ reading.Illegal
 
 -- how many calls a document may still have, at most

@@ -7,21 +7,13 @@ use Rattle.ci_chunk.specs.declared.talk.Call.{Call}
 use Rattle.ci_link.specs.Line.{Dies, Exchanges, RunsOut, Speaking}
 use Rattle.ci_link.specs.Reading.{IsBegun, IsRead}
 use Rattle.ci_chunk.specs.declared.outcome.Outcome.{Outcome}
-use Rattle.ci_chunk.specs.declared.outcome.Outcome.TheVariants.{Done, Failed, Refused}
 use Rattle.ci_link.specs.declared.outcome.Talk.{Talk as Came}
 use Rattle.ci_link.specs.declared.outcome.Talk.TheVariants.{Finished, Died}
-use Rattle.ci_chunk.specs.declared.piece.Piece.{Piece}
 
--- each document was read, by the exchanges beside it, and has the outcome beside it; no talk comes to a failure of a
--- document yet
-abbrev pub HasOutcome : List ℕ → Talk → Outcome → Type 0
-HasOutcome path talk (Done pieces) = IsRead path talk pieces
-HasOutcome path talk (Failed status) = ⊥
-HasOutcome path talk (Refused status) = ⊥
-
+-- each document was read, by the exchanges beside it, and has the outcome beside it
 abbrev pub AreRead : List (List ℕ × Seq) → List Talk → List Outcome → Type 0
 AreRead [] [] [] = ⊤
-AreRead (doc ∷ docs) (talk ∷ talks) (outcome ∷ outcomes) = HasOutcome doc.0 talk outcome × AreRead docs talks outcomes
+AreRead (doc ∷ docs) (talk ∷ talks) (outcome ∷ outcomes) = IsRead doc.0 talk outcome × AreRead docs talks outcomes
 AreRead _ _ _ = ⊥
 
 -- the exchanges of all documents, one after the other
@@ -67,9 +59,9 @@ pub record RunsOutAt (old new : Speaking) (docs : List (List ℕ × Seq)) : Type
   pub ran_out : RunsOut old new (joined talks) talk call
 
 -- a document was read, or its talk died, or memory ran out within it
-pub record Reads (old new : Speaking) (path : List ℕ) (pieces : List Piece) : Type 0 where
+pub record Reads (old new : Speaking) (path : List ℕ) (outcome : Outcome) : Type 0 where
   pub talk : Talk
-  pub read : IsRead path talk pieces
+  pub read : IsRead path talk outcome
   pub exchanged : Exchanges old new talk
 
 pub record DiesWithin (old new : Speaking) (path : List ℕ) : Type 0 where

@@ -12,7 +12,7 @@ use crate::stop::Stop;
 use crate::{Link, NoDaemon, Talk};
 use ci_base::{OutOfMemory, PathText};
 use ci_change::Batch;
-use ci_chunk::{Answer, Call, Outcome, Outcomes, Transcript};
+use ci_chunk::{Answer, Call, Outcome, Outcomes};
 use ci_io::Failed;
 use ci_wire::{Frame, FrameFault, Frames, encode_call};
 use std::alloc::Global;
@@ -90,7 +90,7 @@ impl<L: Link + Drop> Daemon<L> {
         let mut outcomes = Outcomes::new(alloc);
         for (place, doc) in batch.docs.items().iter().enumerate() {
             match self.read_document(alloc, &doc.0) {
-                Ok(pieces) => outcomes.add(Outcome::Done(pieces))?,
+                Ok(outcome) => outcomes.add(outcome)?,
                 Err(Stop::Died) => {
                     return Ok(Talk::Died {
                         charged: place as u32,
@@ -102,8 +102,8 @@ impl<L: Link + Drop> Daemon<L> {
         Ok(Talk::Finished(outcomes))
     }
 
-    // Reads a document to its pieces.
-    fn read_document(&mut self, alloc: Global, path: &PathText) -> Result<Transcript, Stop>
+    // Reads a document to its outcome.
+    fn read_document(&mut self, alloc: Global, path: &PathText) -> Result<Outcome, Stop>
         ensures read { IfOk result (Reads self.old self.new path.now) }
         ensures died { IsErrOf result Stop.Died → DiesWithin self.old self.new path.now }
         ensures memory { IsErrOf result Stop.OutOfMemory →
@@ -115,7 +115,7 @@ impl<L: Link + Drop> Daemon<L> {
             let answer = self.ask(alloc, &call)?;
             match document.hear(alloc, answer)? {
                 Next::Ask(next) => document = next,
-                Next::Done(pieces) => return Ok(pieces),
+                Next::Ends(outcome) => return Ok(outcome),
                 Next::Illegal => return Err(Stop::Died),
             }
         }

@@ -7,7 +7,7 @@ use crate::hear_text::hear_text;
 use crate::hear_value::hear_value;
 use crate::stage::Stage;
 use ci_base::{OutOfMemory, PathText};
-use ci_chunk::{Answer, Call, Transcript};
+use ci_chunk::{Answer, Call, Outcome, Transcript};
 use std::alloc::Global;
 use std::mem;
 
@@ -39,8 +39,8 @@ pub(crate) struct Document {
 pub(crate) enum Next {
     /// The document's next call.
     Ask(Document),
-    /// The document is done, with these pieces.
-    Done(Transcript),
+    /// The document has its outcome.
+    Ends(Outcome),
     /// The answer isn't legal.
     Illegal,
 }

@@ -2,13 +2,17 @@
 ghost use Rattle.std.specs.Prelude.{◌≡◌, ◌==◌, ◌||◌, ◌++◌, ℕ, List, [], ◌∷◌, OnOk};
 ghost use Rattle.ci_chunk.specs.Sizes.{IsBounded};
 ghost use Rattle.ci_chunk.specs.Talk.{Talk as Exchanged};
+ghost use Rattle.ci_chunk.specs.declared.talk.Answer.{Answer as Said};
+ghost use Rattle.ci_chunk.specs.declared.talk.Call.{Call as Asked};
 ghost use Rattle.ci_link.specs.Document.{Hears, IsNearer, Stands, counted, is_above, left, stage_for};
 ghost use Rattle.ci_link.specs.Reading as reading;
 
 use crate::document::{Document, Next};
 use crate::stage::Stage;
 use ci_base::{OutOfMemory, Text};
-use ci_chunk::{Answer, Call, ChunkState, Piece, StatChunk, Status, Transcript, TranscriptFault};
+use ci_chunk::{
+    Answer, Call, ChunkState, Outcome, Piece, StatChunk, Status, Transcript, TranscriptFault,
+};
 use std::alloc::Global;
 
 /// The most chunks that are asked for in a document.
@@ -24,7 +28,7 @@ pub(crate) fn hear_init(mut document: Document, answer: Answer) -> Next
     match answer {
         Answer::Status(status) => {
             if status.is_failing() {
-                return Next::Illegal;
+                return of_status(status);
             }
             document.stage = Stage::Chunks;
             Next::Ask(document)
@@ -53,10 +57,10 @@ pub(crate) fn hear_chunk(mut document: Document, alloc: Global, answer: Answer) 
         }
         Answer::Status(status) => {
             if ends_chunks(status) {
-                return Next::Done(document.pieces);
+                return Next::Ends(Outcome::Done(document.pieces));
             }
             if !passes_chunk(status) {
-                return Next::Illegal;
+                return of_status(status);
             }
             document.stage = Stage::Chunks;
             count_chunk(document)
@@ -72,7 +76,7 @@ fn count_chunk(mut document: Document) -> Next
 {
     let chunks = document.chunks.saturating_add(1);
     if chunks >= CLIP_CHUNKS {
-        return Next::Done(document.pieces);
+        return Next::Ends(Outcome::Done(document.pieces));
     }
     document.chunks = chunks;
     Next::Ask(document)
@@ -97,6 +101,28 @@ fn passes_chunk(status: Status) -> bool
     ensures { result ≡ ((status.0 == 0x80041707) || (status.0 == 0x80041708)) }
 {
     status == Status::FILTER_E_EMBEDDING_UNAVAILABLE || status == Status::FILTER_E_LINK_UNAVAILABLE
+}
+
+/// A status that tells its call nothing of its own: a refusal, a failure, or no legal answer.
+pub(crate) fn of_status(status: Status) -> Next
+    ensures next { (path : List ℕ) (talk : Exchanged) (call : Asked) (answer : Said) →
+        reading.after talk call answer ≡ reading.after_status status →
+        Hears path talk call answer result }
+    ensures nearer { (count : ℕ) → IsNearer count result }
+{
+    if is_refusal(status) {
+        return Next::Ends(Outcome::Refused(status));
+    }
+    if status.is_failing() {
+        return Next::Ends(Outcome::Failed(status));
+    }
+    Next::Illegal
+}
+
+fn is_refusal(status: Status) -> bool
+    ensures { result ≡ ((status.0 == 0x8004170B) || (status.0 == 0x8004170C)) }
+{
+    status == Status::FILTER_E_PASSWORD || status == Status::FILTER_E_UNKNOWNFORMAT
 }
 
 fn stage_of(alloc: Global, chunk: StatChunk) -> Stage

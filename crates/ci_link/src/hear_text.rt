@@ -6,10 +6,10 @@ ghost use Rattle.ci_link.specs.Document.{Hears, IsNearer, Stands, left};
 ghost use Rattle.ci_link.specs.Reading as reading;
 
 use crate::document::{CLIP_BYTES, Document, Next};
-use crate::hear::end_chunk;
+use crate::hear::{end_chunk, of_status};
 use crate::stage::Stage;
 use ci_base::{OutOfMemory, Text};
-use ci_chunk::{Answer, Piece, StatChunk, Status, Transcript};
+use ci_chunk::{Answer, Outcome, Piece, StatChunk, Status, Transcript};
 use ci_words::cut;
 
 /// The answer to GetText: a part of the text, or a status that ends it.
@@ -31,7 +31,7 @@ pub(crate) fn hear_text(
         Answer::Text { status, text: part } => add_text(document, chunk, text, status, &part),
         Answer::Status(status) => {
             if !ends_text(status) {
-                return Ok(Next::Illegal);
+                return Ok(of_status(status));
             }
             end_text(&mut document.pieces, chunk, text)?;
             document.stage = Stage::Chunks;
@@ -63,7 +63,7 @@ fn add_text(
         let room = CLIP_BYTES.saturating_sub(document.size);
         let text = join(text, cut(part.as_str(), room))?;
         end_text(&mut document.pieces, chunk, text)?;
-        return Ok(Next::Done(document.pieces));
+        return Ok(Next::Ends(Outcome::Done(document.pieces)));
     }
     let text = join(text, part.as_str())?;
     document.size = size;

@@ -7,10 +7,10 @@ ghost use Rattle.ci_link.specs.Document.{Hears, IsNearer, Stands, left};
 ghost use Rattle.ci_link.specs.Pieces.{bytes_of_value};
 
 use crate::document::{CLIP_BYTES, Document, Next};
-use crate::hear::end_chunk;
+use crate::hear::{end_chunk, of_status};
 use crate::stage::Stage;
 use ci_base::{OutOfMemory, Value};
-use ci_chunk::{Answer, Call, Piece, StatChunk, Status, Transcript};
+use ci_chunk::{Answer, Call, Outcome, Piece, StatChunk, Status, Transcript};
 
 /// The answer to GetValue: the value, or a status instead of it.
 pub(crate) fn hear_value(
@@ -30,7 +30,7 @@ pub(crate) fn hear_value(
         Answer::Value { status: _, value } => add_value(document, chunk, value),
         Answer::Status(status) => {
             if !ends_value(status) {
-                return Ok(Next::Illegal);
+                return Ok(of_status(status));
             }
             end_value(&mut document.pieces, chunk, None)?;
             document.stage = Stage::Chunks;
@@ -54,7 +54,7 @@ fn add_value(mut document: Document, chunk: StatChunk, value: Value) -> Result<N
     let size = document.size.saturating_add(value_len(&value));
     if size > CLIP_BYTES {
         end_value(&mut document.pieces, chunk, None)?;
-        return Ok(Next::Done(document.pieces));
+        return Ok(Next::Ends(Outcome::Done(document.pieces)));
     }
     end_value(&mut document.pieces, chunk, Some(value))?;
     document.size = size;

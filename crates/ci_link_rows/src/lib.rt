@@ -4,6 +4,10 @@
 #[cfg(test)]
 mod children;
 #[cfg(test)]
+mod frames;
+#[cfg(test)]
+mod outcomes;
+#[cfg(test)]
 mod spawners;
 #[cfg(test)]
 mod table;

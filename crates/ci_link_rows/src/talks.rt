@@ -1,7 +1,8 @@
 //! Talks with daemons that say just this.
 
+use crate::frames::frames;
 use crate::table::{Table, unmet};
-use ci_base::{PathText, Seq, Text8};
+use ci_base::{PathText, Seq};
 use ci_change::{Batch, Docs};
 use ci_chunk::{Call, Outcome, Piece};
 use ci_link::{Daemon, Link, MemoryLink, SureMemoryLink, Talk};
@@ -19,46 +20,6 @@ fn batch(alloc: Global, paths: &str) -> Result<Batch, Fail> {
         docs.add((path(alloc, text)?, Seq(1)))?;
     }
     Ok(Batch { number: 1, docs })
-}
-
-const OPENED: &[u8] = b"\x05\x10\x00\x00\x00\x00";
-
-const CHUNK_ONE: &[u8] =
-    b"\x19\x11\x00\x00\x00\x01\x03\x01\x00\x00\x00\x00\x00\x01\x00\x00\x00\x01\x00\x00\x00\x00\x00\x00\x00\x00";
-
-const CHUNK_TWO: &[u8] =
-    b"\x19\x11\x00\x00\x00\x02\x03\x01\x00\x00\x00\x00\x00\x01\x00\x00\x00\x02\x00\x00\x00\x00\x00\x00\x00\x00";
-
-const LAST_RED: &[u8] = b"\x08\x12\x00\x04\x17\x09red";
-
-const EMPTY: &[u8] = b"\x05\x12\x00\x00\x00\x00";
-
-const NO_EMBEDDING: &[u8] = b"\x05\x10\x80\x04\x17\x07";
-
-const NO_MORE_CHUNKS: &[u8] = b"\x05\x10\x80\x04\x17\x00";
-
-const UNKNOWN_FORMAT: &[u8] = b"\x05\x10\x80\x04\x17\x0c";
-
-// The frame of a letter.
-fn frame(letter: char) -> &'static [u8] {
-    match letter {
-        'o' => OPENED,
-        '1' => CHUNK_ONE,
-        '2' => CHUNK_TWO,
-        'r' => LAST_RED,
-        'e' => EMPTY,
-        'n' => NO_EMBEDDING,
-        '.' => NO_MORE_CHUNKS,
-        _ => UNKNOWN_FORMAT,
-    }
-}
-
-fn frames(alloc: Global, letters: &str) -> Result<Text8, Fail> {
-    let mut bytes = Vec::new(alloc);
-    for letter in letters.chars() {
-        bytes.extend_from_slice(frame(letter))?;
-    }
-    Ok(Text8::from(bytes))
 }
 
 // The answers of one document: the text `red`, an embedding that can't be had, and an empty text.
@@ -129,13 +90,15 @@ impl Table for Talks {
 
 #[test]
 fn talks_come_to_their_outcomes(rt: HostRuntime) -> Result<(), Fail> {
-    // one document and two; a repeated chunk; a daemon that ends; a format that isn't known
+    // one document and two; a repeated chunk; a daemon that ends; a format that isn't known, alone
+    // and before a document
     const ROWS: &str = "\
 o1rn2e.; /d/a.txt => red 1
 o1rn2e.o1rn2e.; /d/a.txt /d/b.txt => red 2
 o1r1; /d/a.txt => died at 0
 o1rn2e.; /d/a.txt /d/b.txt => died at 1
-?; /d/a.txt => died at 0";
+?; /d/a.txt => red 0
+?o1rn2e.; /d/a.txt /d/b.txt => red 1";
     assert_eq!(rt; unmet::<Talks>(rt.alloc(), ROWS)?.as_str(), "");
     Ok(())
 }
@@ -174,6 +137,7 @@ fn call(alloc: Global, letter: char) -> Result<Call, Fail> {
             path: path(alloc, "/d/a.txt")?,
         },
         'T' => Call::GetText { max: 65_536 },
+        'V' => Call::GetValue,
         _ => Call::GetChunk,
     })
 }
@@ -191,17 +155,28 @@ fn add_call(alloc: Global, bytes: &mut Vec<u8>, letter: char) -> Result<(), Fail
     Ok(bytes.extend_from_slice(spelled.items())?)
 }
 
-// The bytes that are sent for one red document.
-fn sent(alloc: Global) -> Result<Vec<u8>, Fail> {
-    let link = SureMemoryLink::new(alloc, frames(alloc, RED)?, 2048)?;
-    let (_talk, link) = talked(alloc, link, "/d/a.txt")?;
+// The bytes that are sent to a daemon with these frames.
+fn sent(alloc: Global, letters: &str, paths: &str) -> Result<Vec<u8>, Fail> {
+    let link = SureMemoryLink::new(alloc, frames(alloc, letters)?, 2048)?;
+    let (_talk, link) = talked(alloc, link, paths)?;
     Ok(Vec::from_slice(alloc, link.sent())?)
 }
 
 #[test]
 fn a_document_is_asked_for_call_by_call(rt: HostRuntime) -> Result<(), Fail> {
     let wanted = calls(rt.alloc(), "IGTGGTG")?;
-    assert_eq!(rt; sent(rt.alloc())?.as_slice(), wanted.as_slice());
+    let sent = sent(rt.alloc(), RED, "/d/a.txt")?;
+    assert_eq!(rt; sent.as_slice(), wanted.as_slice());
+    Ok(())
+}
+
+#[test]
+fn nothing_is_asked_behind_an_outcome(rt: HostRuntime) -> Result<(), Fail> {
+    // refused at Init, failed at GetChunk, GetText and GetValue, and read
+    let wanted = calls(rt.alloc(), "IIGIGTIGVIG")?;
+    let paths = "/d/a.txt /d/a.txt /d/a.txt /d/a.txt /d/a.txt";
+    let sent = sent(rt.alloc(), "?oao1aovao.", paths)?;
+    assert_eq!(rt; sent.as_slice(), wanted.as_slice());
     Ok(())
 }
 

@@ -1,5 +1,5 @@
 -- The condition of a step, what the step does where it is made, and how it is refused.
-use Rattle.std.specs.Prelude.{◌≡◌, ◌<◌, ◌≤◌, ◌+◌, ⊤, All, ℕ, Bool, Option, length}
+use Rattle.std.specs.Prelude.{◌≡◌, ◌<◌, ◌≤◌, ◌+◌, ⊤, ℕ, Bool, Option, length}
 use Rattle.ci_change.specs.declared.batch.Batch.{Batch}
 use Rattle.ci_change.specs.declared.notice.What.TheVariants.{Changed}
 use Rattle.ci_journal.specs.declared.event.Happened.TheVariants.{Asked, Put as Putting, Started as Starting, StartFailed as Failing, BatchDone, BatchDied as Dying, Returned, Answered, Said}
@@ -14,7 +14,6 @@ use Rattle.ci_holdings.specs.Core.{Core}
 use Rattle.ci_core.specs.Erasing.{Erases, RefusesErasing}
 use Rattle.ci_holdings.specs.Opening.{OpensFirst, RefusesOpening}
 use Rattle.ci_holdings.specs.Refusals.{Refuses}
-use Rattle.ci_holdings.specs.Serving.{IsDone}
 use Rattle.ci_holdings.specs.Steps.{Ends, Makes}
 use Rattle.ci_play.specs.declared.step.Step.{Step}
 use Rattle.ci_play.specs.declared.step.Step.TheVariants.{Ask, Note, Put, Erase, Started, StartFailed, BeginBatch, FinishBatch, BatchDied, ReturnBatch, OpenQuery, Answer, Say}
@@ -29,8 +28,7 @@ Holds core (Erase by path) = ⊤
 Holds core (Started by) = ⊤
 Holds core (StartFailed by) = ⊤
 Holds core (BeginBatch by max) = 1 ≤ max
-Holds core (FinishBatch by batch outcomes) =
-    CanFinish core.sheet.events by batch outcomes × All IsDone outcomes
+Holds core (FinishBatch by batch outcomes) = CanFinish core.sheet.events by batch outcomes
 Holds core (BatchDied by batch charged) =
     MayEnd core.sheet.events by batch.number batch × (charged < length batch.docs)
 Holds core (ReturnBatch by batch) = MayEnd core.sheet.events by batch.number batch

@@ -10,6 +10,8 @@ mod copies;
 #[cfg(test)]
 mod deaths;
 #[cfg(test)]
+mod outcomes;
+#[cfg(test)]
 mod returns;
 #[cfg(test)]
 mod standings;

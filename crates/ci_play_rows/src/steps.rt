@@ -79,10 +79,16 @@ fn batch(alloc: Global, number: u64, text: &str) -> Result<Batch, Fail> {
 
 /// It finishes the first batch, which is of this document.
 pub(crate) fn finish(steps: &mut Vec<Step>, text: &str) -> Result<(), Fail> {
+    let transcript = Transcript::new(*steps.allocator());
+    finish_with(steps, text, Outcome::Done(transcript))
+}
+
+/// The first batch, which is of this document, has this outcome.
+pub(crate) fn finish_with(steps: &mut Vec<Step>, text: &str, outcome: Outcome) -> Result<(), Fail> {
     let alloc = *steps.allocator();
     let batch = batch(alloc, 1, text)?;
     let mut outcomes = Outcomes::new(alloc);
-    outcomes.add(Outcome::Done(Transcript::new(alloc)))?;
+    outcomes.add(outcome)?;
     steps.push(Step::FinishBatch {
         by: 1,
         batch,

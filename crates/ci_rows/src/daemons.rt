@@ -1,4 +1,4 @@
-//! Daemons in memory, each of which says the same of every document, and what is told of them.
+//! Daemons in memory, which read documents, refuse them or fail at them, and what is told of them.
 
 ghost use Rattle.std.specs.Prelude.{IfOk};
 ghost use Rattle.ci_link.specs.Memory.{IsUnused};
@@ -21,16 +21,44 @@ const NO_MORE_CHUNKS: &[u8] = b"\x05\x10\x80\x04\x17\x00";
 // The bytes of these four frames.
 const DOCUMENT_BYTES: usize = 47;
 
+// The Init is refused: no filter takes the document, or its text is behind a password. Or it fails:
+// its file can't be read.
+const NO_FORMAT: &[u8] = b"\x05\x10\x80\x04\x17\x0c";
+
+const LOCKED: &[u8] = b"\x05\x10\x80\x04\x17\x0b";
+
+const UNREADABLE: &[u8] = b"\x05\x10\x80\x04\x17\x03";
+
+// The bytes of each of these.
+const STATUS_BYTES: usize = 6;
+
 // What a link takes, at most: the calls of 2,000 documents have some 60,000 bytes.
 const ROOM: usize = 131_072;
 
-// What a daemon says that reads so many documents, and then ends.
-fn answers(alloc: Global, documents: usize) -> Result<Text8, Fail> {
+// What a daemon says of the documents that it gets, before it ends. Between points: how many it
+// reads, or a letter for one that it doesn't.
+fn answers(alloc: Global, documents: &str) -> Result<Text8, Fail> {
     let mut bytes = Vec::new(alloc);
-    for _ in 0..documents {
-        add_document(&mut bytes)?;
+    for part in documents.split('.') {
+        add_part(&mut bytes, part)?;
     }
     Ok(Text8::from(bytes))
+}
+
+fn add_part(bytes: &mut Vec<u8>, part: &str) -> Result<(), Fail> {
+    match part {
+        "n" => Ok(bytes.extend_from_slice(NO_FORMAT)?),
+        "l" => Ok(bytes.extend_from_slice(LOCKED)?),
+        "u" => Ok(bytes.extend_from_slice(UNREADABLE)?),
+        _ => add_documents(bytes, part.parse::<usize>().ok().ok_or("a number")?),
+    }
+}
+
+fn add_documents(bytes: &mut Vec<u8>, count: usize) -> Result<(), Fail> {
+    for _ in 0..count {
+        add_document(bytes)?;
+    }
+    Ok(())
 }
 
 fn add_document(bytes: &mut Vec<u8>) -> Result<(), Fail> {
@@ -40,7 +68,7 @@ fn add_document(bytes: &mut Vec<u8>) -> Result<(), Fail> {
     Ok(())
 }
 
-fn link(alloc: Global, documents: usize) -> Result<MemoryLink, Fail>
+fn link(alloc: Global, documents: &str) -> Result<MemoryLink, Fail>
     ensures { IfOk result IsUnused }
 {
     let answers = answers(alloc, documents)?;
@@ -58,26 +86,19 @@ const DAEMONS: u64 = 5;
 // The starts from this one on fail.
 const STARTS: u64 = 32;
 
-/// A number for each daemon in turn, of at most five: how many documents it reads before it ends. Behind the
-/// last of them no start gives one.
-pub(crate) fn daemons(alloc: Global, numbers: &str) -> Result<MemorySpawner, Fail> {
-    let mut words = numbers.split_whitespace();
+/// A word for each daemon in turn, of at most five: what it says before it ends. Behind the last of
+/// them no start gives one.
+pub(crate) fn daemons(alloc: Global, given: &str) -> Result<MemorySpawner, Fail> {
+    let mut words = given.split_whitespace();
     let links = vec![in alloc;
-        link(alloc, number(words.next())?)?,
-        link(alloc, number(words.next())?)?,
-        link(alloc, number(words.next())?)?,
-        link(alloc, number(words.next())?)?,
-        link(alloc, number(words.next())?)?,
+        link(alloc, words.next().unwrap_or("0"))?,
+        link(alloc, words.next().unwrap_or("0"))?,
+        link(alloc, words.next().unwrap_or("0"))?,
+        link(alloc, words.next().unwrap_or("0"))?,
+        link(alloc, words.next().unwrap_or("0"))?,
     ]?;
-    let count = numbers.split_whitespace().count() as u64;
+    let count = given.split_whitespace().count() as u64;
     Ok(MemorySpawner::new(alloc, links, failing(alloc, count)?))
-}
-
-fn number(word: Option<&str>) -> Result<usize, Fail> {
-    match word {
-        Some(word) => Ok(word.parse::<usize>().ok().ok_or("a number")?),
-        None => Ok(0),
-    }
 }
 
 // The numbers of the starts that fail, where so many daemons can be had.
@@ -92,11 +113,21 @@ fn failing(alloc: Global, count: u64) -> Result<Vec<u64>, Fail> {
     Ok(fails)
 }
 
-/// A number for each daemon that was given back: of how many documents all was heard.
+/// A number for each daemon that was given back: of how many documents all was heard. Behind a sign,
+/// if there are some: how many it didn't read.
 pub(crate) fn heard(alloc: Global, records: &Records) -> Result<String, Fail> {
     let mut told = String::new(alloc);
     for record in &records.to_vec(alloc)? {
-        write!(told, " {}", record.given.items().len() / DOCUMENT_BYTES)?;
+        let bytes = record.given.items().len();
+        write!(told, " {}", bytes / DOCUMENT_BYTES)?;
+        add_unread(&mut told, bytes % DOCUMENT_BYTES / STATUS_BYTES)?;
     }
     Ok(told)
+}
+
+fn add_unread(told: &mut String, count: usize) -> Result<(), Fail> {
+    if count > 0 {
+        write!(told, "+{count}")?;
+    }
+    Ok(())
 }

@@ -44,7 +44,7 @@ fn told_and_heard(
 }
 
 // Rows of daemons and lines: how many documents each daemon reads, and the session.
-struct Filterings;
+pub(crate) struct Filterings;
 
 impl Table for Filterings {
     fn told(alloc: Global, given: &str) -> Result<String, Fail> {

@@ -25,3 +25,5 @@ mod session;
 mod sessions;
 #[cfg(test)]
 mod table;
+#[cfg(test)]
+mod unread;

@@ -1,14 +1,12 @@
 -- A batch begins, and ends.
-use Rattle.std.proofs.Common.{arith, Result, Ok, Err, OnOk, IfErr, ◌≡◌, ◌≢◌, ◌<◌, ◌+◌, ◌∙◌, ◌==◌, ℕ, true, false, List, [], ◌∷◌, ◌++◌, All, Contains, None, Some, length, min, take, refl, ap, sym, subst, append-nil, inr, ⊎_elim, slice_get, suc, zero}
+use Rattle.std.proofs.Common.{arith, Result, Ok, Err, OnOk, IfErr, ◌≡◌, ◌≢◌, ◌<◌, ◌+◌, ◌∙◌, ◌==◌, ℕ, true, false, List, [], ◌∷◌, ◌++◌, Contains, None, Some, length, min, take, refl, ap, sym, subst, append-nil, inr, ⊎_elim, slice_get, suc, zero}
 use Rattle.std.proofs.lemmas.Bool.Decides.{nat_tests}
 use Rattle.std.proofs.lemmas.List.{length-map, length-take}
-use Rattle.std.proofs.lemmas.List.Elements.{All-cons, All-nil}
 use Rattle.ci_base.specs.declared.numbers.Seq.{Seq}
 use Rattle.ci_change.specs.declared.batch.Batch.{Batch}
 use Rattle.ci_change.specs.declared.notice.Notice.{Notice}
 use Rattle.ci_chunk.specs.Talk.{Talk}
 use Rattle.ci_chunk.specs.declared.outcome.Outcome.{Outcome}
-use Rattle.ci_chunk.specs.declared.outcome.Outcome.TheVariants.{Done, Failed, Refused}
 use Rattle.ci_keys.proofs.OneForm.{Contains-first, Contains-later}
 use Rattle.ci_journal.specs.declared.event.Event.{Event}
 use Rattle.ci_journal.specs.declared.event.Happened.TheVariants.{BatchDied, BatchDone, Begun, Returned}
@@ -29,7 +27,6 @@ use Rattle.ci_core.specs.Fixed.{KeepsFixed, PrintsAfter}
 use Rattle.ci_holdings.specs.Batches.{CanFinish, IsNextBatch, IsStarved, RefusesBeginning}
 use Rattle.ci_holdings.specs.Core.{Core}
 use Rattle.ci_holdings.specs.Refusals.{Refuses}
-use Rattle.ci_holdings.specs.Serving.{IsDone}
 use Rattle.ci_holdings.specs.Steps.{Ends, IsUnrefused, Makes}
 use Rattle.ci_link.specs.Talking.{AreRead}
 use Rattle.ci_worker.specs.Filtering.{GoesIdle, GoesOn, HasBegun, HasLessRoom, IsOut, StopsFiltering}
@@ -201,17 +198,14 @@ module _ (by : ℕ) (old : Core) (batch : Batch) (alone : IsOut by old batch) wh
       returned-stops =
           filtering-later by old new new OutOfMemory (GoesOn-one by old new (Returned batch.number) (batch, may-end) returned_at) (filtering-starves by new returned_at.sound)
 
--- every document has an outcome that was read to its end
-pub read-done : (docs : List (List ℕ × Seq)) (talks : List Talk) (outcomes : List Outcome) → AreRead docs talks outcomes → (length outcomes ≡ length docs) × All IsDone outcomes
-read-done [] [] [] read = (refl, All-nil IsDone)
-read-done (d ∷ docs) (t ∷ talks) (Done pieces ∷ outcomes) read =
-    let rest = read-done docs talks outcomes read.1 in (ap suc rest.0, All-cons IsDone (Done pieces) outcomes tt rest.1)
-read-done (d ∷ docs) (t ∷ talks) (Failed status ∷ outcomes) read = absurd read.0
-read-done (d ∷ docs) (t ∷ talks) (Refused status ∷ outcomes) read = absurd read.0
-read-done [] [] (o ∷ outcomes) read = absurd read
-read-done [] (t ∷ talks) outcomes read = absurd read
-read-done (d ∷ docs) [] outcomes read = absurd read
-read-done (d ∷ docs) (t ∷ talks) [] read = absurd read
+-- every document has an outcome
+pub read-each : (docs : List (List ℕ × Seq)) (talks : List Talk) (outcomes : List Outcome) → AreRead docs talks outcomes → length outcomes ≡ length docs
+read-each [] [] [] read = refl
+read-each (d ∷ docs) (t ∷ talks) (o ∷ outcomes) read = ap suc (read-each docs talks outcomes read.1)
+read-each [] [] (o ∷ outcomes) read = absurd read
+read-each [] (t ∷ talks) outcomes read = absurd read
+read-each (d ∷ docs) [] outcomes read = absurd read
+read-each (d ∷ docs) (t ∷ talks) [] read = absurd read
 
 -- a place that has a document is one of the batch
 pub place-within : {X : Type 0} (xs : List X) (place : ℕ) (x : X) → slice_get xs place ≡ Some x → place < length xs

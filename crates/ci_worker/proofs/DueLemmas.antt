@@ -1,11 +1,9 @@
 -- Which deletions are pending, which of them comes first, and what is left of them behind an erasure.
-use Rattle.std.proofs.Common.{arith, ◌≡◌, ◌<◌, ◌≤◌, ◌+◌, ◌∙◌, ◌==◌, ◌&&◌, ◌||◌, not, ℕ, Bool, true, false, suc, List, [], ◌∷◌, ◌++◌, Contains, IsSortedByKey, option_to_list, bytes_eq, get_or, max, nat_lt, refl, ap, sym, subst, append-nil, append_assoc, ⊎_elim, if◌then◌else◌}
-use Rattle.std.specs.List.{list_any}
+use Rattle.std.proofs.Common.{arith, ◌≡◌, ◌<◌, ◌≤◌, ◌+◌, ◌∙◌, ◌==◌, not, ℕ, Bool, true, false, suc, List, [], ◌∷◌, ◌++◌, Contains, IsSortedByKey, option_to_list, bytes_eq, get_or, max, nat_lt, refl, ap, sym, subst, append-nil, append_assoc, ⊎_elim, if◌then◌else◌}
 use Rattle.std.specs.Cmp.Lexicographic.{slice_cmp}
 use Rattle.std.specs.Ordering.{is_lt, nat_cmp}
 use Rattle.std.specs.Cmp.{IsStrictWeakOrder}
 use Rattle.std.proofs.lemmas.Cmp.{nat_list_cmp_total}
-use Rattle.std.proofs.lemmas.List.Folds.{list_any-append}
 use Rattle.std.proofs.lemmas.Bool.{and_parts}
 use Rattle.std.proofs.lemmas.Bool.Decides.{nat_tests}
 use Rattle.std.proofs.lemmas.List.Sorted.{ranks_by}
@@ -14,14 +12,15 @@ use Rattle.ci_base.specs.declared.numbers.Seq.{Seq}
 use Rattle.ci_change.specs.declared.notice.Notice.{Notice}
 use Rattle.ci_change.specs.declared.notice.What.{What}
 use Rattle.ci_change.specs.declared.notice.What.TheVariants.{Changed, Deleted}
-use Rattle.ci_change.specs.Pending.{is_changed, is_spent, is_unserved, latest_number, served_number}
+use Rattle.ci_change.specs.Pending as change
+use Rattle.ci_change.specs.Pending.{is_changed, is_unserved, latest_number, served_number}
 use Rattle.ci_change.proofs.UnservedLemmas.{served_number-push}
 use Rattle.ci_keys.proofs.OneForm.{Contains-cons_cases, none_in_empty}
 use Rattle.ci_journal.specs.declared.event.Event.{Event}
 use Rattle.ci_journal.specs.declared.event.Happened.TheVariants.{Erased}
 use Rattle.ci_journal.specs.Filings.{Filings, fates}
 use Rattle.ci_journal.specs.Folds.{notices}
-use Rattle.ci_journal.specs.Pending.{charge_of, charge_under, charges_in, deletions, is_refusal, is_set_aside, is_under, pending, unserved_notices}
+use Rattle.ci_journal.specs.Pending.{charge_of, charge_under, charges_in, deletions, is_set_aside, pending, refusal_of, refusal_under, refusals_in, unserved_notices}
 use Rattle.ci_journal.specs.Served.{numbers_of, served_numbers}
 use Rattle.ci_journal.specs.Step.{MayErase}
 use Rattle.ci_journal.specs.Tells.{Filing, event}
@@ -121,22 +120,12 @@ head-least n rest m order here =
 
 -- ---- behind an erasure
 
-and_false : (b : Bool) → (b && false) ≡ false
-and_false true = refl
-and_false false = refl
-
-or_false : (b : Bool) → (b || false) ≡ b
-or_false true = refl
-or_false false = refl
-
 -- a document that is gone sets nothing aside
 aside-gone : (retries : ℕ) (filed : List Filing) (f : Filing) (n : Notice) → f.fate ≡ Gone → is_set_aside retries (filed ++ f ∷ []) n ≡ is_set_aside retries filed n
 aside-gone retries filed f n is =
-    let refused = list_any (λ g. is_under n g && is_refusal g.fate) filed in
-    let none : list_any (λ (g : Filing). is_under n g && is_refusal g.fate) (f ∷ []) ≡ false = or_false (is_under n f && is_refusal f.fate) ∙ ap (λ w. is_under n f && is_refusal w) is ∙ and_false (is_under n f) in
     let charges : charges_in (filed ++ f ∷ []) ≡ charges_in filed = filter_map-push charge_of filed f ∙ ap (λ w. charges_in filed ++ option_to_list (charge_under (f.path, f.seq) w)) is ∙ append-nil (charges_in filed) in
-    ap (λ b. b || is_spent retries (charges_in (filed ++ f ∷ [])) n) (list_any-append (λ (g : Filing). is_under n g && is_refusal g.fate) filed (f ∷ []) ∙ ap (λ b. refused || b) none ∙ or_false refused)
-    ∙ ap (λ cs. refused || is_spent retries cs n) charges
+    let refusals : refusals_in (filed ++ f ∷ []) ≡ refusals_in filed = filter_map-push refusal_of filed f ∙ ap (λ w. refusals_in filed ++ option_to_list (refusal_under (f.path, f.seq) w)) is ∙ append-nil (refusals_in filed) in
+    ap (λ rs. change.is_set_aside retries (charges_in (filed ++ f ∷ [])) rs n) refusals ∙ ap (λ cs. change.is_set_aside retries cs (refusals_in filed) n) charges
 
 module _ (terms : Terms) (journal : List Event) (by : ℕ) (path : List ℕ) (seq : Seq) where
   abbrev erasure : Event

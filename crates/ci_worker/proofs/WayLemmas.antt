@@ -15,7 +15,7 @@ use Rattle.ci_keys.proofs.OneForm.{Contains-cons_cases, Contains-first, Contains
 use Rattle.ci_journal.specs.declared.event.Event.{Event}
 use Rattle.ci_journal.specs.Filings.{Filings, docs_out, fates, fates_at_end, filings, out}
 use Rattle.ci_journal.specs.Folds.{notices}
-use Rattle.ci_journal.specs.Pending.{charge_of, charges_in, deletions, free, is_refusal, is_set_aside, is_under, pending}
+use Rattle.ci_journal.specs.Pending.{charge_of, charges_in, deletions, free, is_set_aside, pending, refusal_of, refusals_in}
 use Rattle.ci_journal.specs.Served.{number_of, numbers_of, served_numbers}
 use Rattle.ci_journal.specs.Tells.{Filed, Filing, tells}
 use Rattle.ci_journal.specs.Tells.Filed.{One, Begins, Ends}
@@ -91,11 +91,13 @@ count-more test xs ys =
 -- a notice is set aside for ever
 aside-still : (retries : ℕ) (filed more : List Filing) (n : Notice) → is_set_aside retries filed n ≡ true → is_set_aside retries (filed ++ more) n ≡ true
 aside-still retries filed more n is =
-    let refused = list_any (λ f. is_under n f && is_refusal f.fate) filed in
+    let named : List ℕ × Seq → Bool = λ r. bytes_eq r.0 n.path && r.1.0 == n.seq.0 in
+    let refused = list_any named (refusals_in filed) in
     let spent = is_spent retries (charges_in filed) n in
-    ap (λ b. b || is_spent retries (charges_in (filed ++ more)) n) (list_any-append (λ (f : Filing). is_under n f && is_refusal f.fate) filed more)
-    ∙ ap (λ cs. (refused || list_any (λ f. is_under n f && is_refusal f.fate) more) || is_spent retries cs n) (filter_map-append charge_of filed more)
-    ∙ by refused (list_any (λ (f : Filing). is_under n f && is_refusal f.fate) more) spent (is_spent retries (charges_in filed ++ charges_in more) n) is still
+    ap (λ rs. list_any named rs || is_spent retries (charges_in (filed ++ more)) n) (filter_map-append refusal_of filed more)
+    ∙ ap (λ b. b || is_spent retries (charges_in (filed ++ more)) n) (list_any-append named (refusals_in filed) (refusals_in more))
+    ∙ ap (λ cs. (refused || list_any named (refusals_in more)) || is_spent retries cs n) (filter_map-append charge_of filed more)
+    ∙ by refused (list_any named (refusals_in more)) spent (is_spent retries (charges_in filed ++ charges_in more) n) is still
   where
     still : is_spent retries (charges_in filed) n ≡ true → is_spent retries (charges_in filed ++ charges_in more) n ≡ true
     still spent =

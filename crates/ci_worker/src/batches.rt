@@ -1,5 +1,4 @@
-ghost use Rattle.std.specs.Prelude.{◌≡◌, ◌<◌, ◌≤◌, ◌^◌, [], true, None, All, IfErr, IfOk, OnErr, OnOk, length};
-ghost use Rattle.ci_holdings.specs.Serving.{IsDone};
+ghost use Rattle.std.specs.Prelude.{◌≡◌, ◌<◌, ◌≤◌, ◌^◌, [], true, None, IfErr, IfOk, OnErr, OnOk, length};
 ghost use Rattle.ci_journal.specs.Daemon.{holds_link};
 ghost use Rattle.ci_journal.specs.Pending.{deletions};
 ghost use Rattle.ci_link.specs.declared.outcome.Talk.TheVariants.{Finished, Died as DiedAt};
@@ -78,7 +77,6 @@ impl<P: Spawner + Drop> Worker<P> {
         requires out { IsOut by catalog.old batch.now }
         requires erased { deletions catalog.old.terms catalog.old.sheet.events ≡ [] }
         requires each { length outcomes ≡ length batch.now.docs }
-        requires done { All IsDone outcomes }
         requires holds { Holds self.old catalog.old.sheet.events by }
         ensures ok { OnOk result (GoesIdle by catalog.old catalog.new) }
         ensures holds { OnOk result (Holds self.new catalog.new.sheet.events by) }

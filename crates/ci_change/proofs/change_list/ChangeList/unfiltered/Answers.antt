@@ -4,13 +4,13 @@ use Rattle.std.proofs.lemmas.List.Sorted.{ranks_by, answers_always}
 use Rattle.std.specs.Cmp.Lexicographic.{slice_cmp}
 use Rattle.ci_change.specs.HandedIn.{HandedIn}
 use Rattle.ci_change.specs.Pending.{paths_of, unfiltered}
-use Rattle.ci_change.proofs.PendingLemmas.{tried_are_unfiltered}
+use Rattle.ci_change.proofs.PendingLemmas.{given_up_are_unfiltered}
 use Rattle.ci_change.proofs.change_list.ChangeList.unfiltered.Goals as goal
 
 pub returns : goal.returns
 returns c =
-    let tried = tried_are_unfiltered c.self.inside.past c.self.inside.register c.self.inside.retries c.self.invariant.0 (omega arith) in
-    let listed = c.in_ok-list.ensures ∙ ap paths_of tried ∙ ap (λ (h : HandedIn). paths_of (unfiltered h)) c.self.view_is in
+    let given_up = given_up_are_unfiltered c.self.inside.past c.self.inside.register c.self.inside.retries c.self.invariant.0 (omega arith) in
+    let listed = c.in_ok-list.ensures ∙ ap paths_of given_up ∙ ap (λ (h : HandedIn). paths_of (unfiltered h)) c.self.view_is in
     let sorted = c.sort_unstable_by.ensures in
     record {
       same = subst (λ (ps : List (List ℕ)). IsPermutation ps c.sort_unstable_by.new.self.items) listed sorted.permutation;

@@ -14,7 +14,7 @@ use Rattle.ci_holdings.proofs.holdings.Holdings.unfiltered.Goals as goal
 lists : (g : _) (c : goal.After-from g) → ListsPaths (paths_of (unfiltered (terms_of c.self.inside.noise c.self.inside.retries) c.self.inside.book.events)) c.from.result
 lists g c =
     let kept = c.self.invariant.1 in
-    rw c.from.ensures (subst (λ notices. ListsPaths (paths_of notices) c.in_ok-unfiltered.field-0.items) (unfiltered-tracks _ _ _ kept.tracks kept.unrefused) c.in_ok-unfiltered.ensures)
+    rw c.from.ensures (subst (λ notices. ListsPaths (paths_of notices) c.in_ok-unfiltered.field-0.items) (unfiltered-tracks _ _ _ kept.tracks) c.in_ok-unfiltered.ensures)
 
 pub returns-clause-paths : goal.returns-clause-paths
 returns-clause-paths g c = subst (λ (core : Core). ListsPaths (paths_of (unfiltered core.terms core.sheet.events)) c.from.result) c.self.view_is (lists g c)

@@ -16,11 +16,11 @@ returns-in_err-answer-clause-died g c =
     rw (p.1, p.2) (λ e. dies_within _ _ _ _ c.loop-document.document c.loop-document.invariant.0 _ c.loop-document.invariant.1 c.in_ok-call.ensures
     c.loop-document.invariant.2 (c.in_err-answer.ensures.died (same_err _ _ e)))
 
-pub returns-in-Done-clause-read : goal.returns-in-Done-clause-read
-returns-in-Done-clause-read g c =
+pub returns-in-Ends-clause-read : goal.returns-in-Ends-clause-read
+returns-in-Ends-clause-read g c =
     reads_done _ _ _ _ c.loop-document.document c.loop-document.invariant.0 _ _ _ c.loop-document.invariant.1 c.in_ok-call.ensures c.loop-document.invariant.2
     c.in_ok-answer.ensures.answered
-    (rw c.in-Done.is at (c.in_ok-next.ensures.next c.args.path.now c.loop-document.invariant.0 c.loop-document.invariant.1))
+    (rw c.in-Ends.is at (c.in_ok-next.ensures.next c.args.path.now c.loop-document.invariant.0 c.loop-document.invariant.1))
 
 pub returns-in-Illegal-clause-died : goal.returns-in-Illegal-clause-died
 returns-in-Illegal-clause-died g c = λ _.

@@ -21,7 +21,7 @@ pub loop-place-preserved : goal.loop-place-preserved
 loop-place-preserved g c =
     rw (c.in_ok-add-in-Ok.ensures.ok, docs_more _ _ _ _ c.items-doc-items.ensures c.loop-place-test.true c.doc-item.is)
     (so_far_push c.args.self.now c.loop-place.self c.read_document.new.self (take c.loop-place.place c.args.batch.now.docs) c.loop-place.outcomes c.doc-item.result
-    c.in-Ok.pieces c.loop-place.invariant c.in-Ok.ensures.read)
+    c.in-Ok.outcome c.loop-place.invariant c.in-Ok.ensures.read)
 
 pub returns-in-Err-OutOfMemory-clause-err : goal.returns-in-Err-OutOfMemory-clause-err
 returns-in-Err-OutOfMemory-clause-err g c =
@@ -34,4 +34,4 @@ returns-in_err-add-in-Ok-clause-err g c =
     on_err c.from_residual.result _
     (out_at c.args.self.now c.loop-place.self c.read_document.new.self c.args.batch.now.docs c.loop-place.place c.loop-place.outcomes c.doc-item.result
     c.loop-place.invariant (doc_at _ _ _ _ c.items-doc-items.ensures c.loop-place-test.true c.doc-item.is)
-    (out_reading c.loop-place.self c.read_document.new.self c.doc-item.result.0 c.in-Ok.pieces c.in-Ok.ensures.read))
+    (out_reading c.loop-place.self c.read_document.new.self c.doc-item.result.0 c.in-Ok.outcome c.in-Ok.ensures.read))

@@ -1,17 +1,12 @@
 use Rattle.ci_book.specs.declared.core_fault.CoreFault.TheVariants.{OutOfMemory}
-use Rattle.ci_worker.proofs.BatchLemmas.{GoesIdle-then, IfErr-map, OnOk-map, place-within, read-done}
+use Rattle.ci_worker.proofs.BatchLemmas.{GoesIdle-then, IfErr-map, OnOk-map, place-within, read-each}
 use Rattle.ci_worker.proofs.FilteringLemmas.{filtering-later}
 use Rattle.ci_worker.proofs.worker.Worker.filter_batch.Goals as goal
 
 pub finish-requires-clause-each : goal.finish-requires-clause-each
 finish-requires-clause-each g c =
     let talked = rw c.in-Ok-Finished.field-0-is at c.in-Ok-Finished.ensures.ok in
-    (read-done c.in_ok-batch.batch.docs talked.talk.talks c.in-Ok-Finished.outcomes talked.talk.read).0
-
-pub finish-requires-clause-done : goal.finish-requires-clause-done
-finish-requires-clause-done g c =
-    let talked = rw c.in-Ok-Finished.field-0-is at c.in-Ok-Finished.ensures.ok in
-    (read-done c.in_ok-batch.batch.docs talked.talk.talks c.in-Ok-Finished.outcomes talked.talk.read).1
+    read-each c.in_ok-batch.batch.docs talked.talk.talks c.in-Ok-Finished.outcomes talked.talk.read
 
 pub returns-in-Ok-Finished-clause-ok : goal.returns-in-Ok-Finished-clause-ok
 returns-in-Ok-Finished-clause-ok g c =
