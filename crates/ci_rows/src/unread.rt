@@ -33,14 +33,18 @@ u.1.1; changed /a|changed /b|filter|query red| => Done 16: 1 ok|2 ok|3 filtered 
 #[test]
 fn failures_deaths_and_refusals_of_one_path_in_each_order(rt: HostRuntime) -> Result<(), Fail> {
     // a failure, a death and a refusal; the first two the other way; a refusal behind either alone;
-    // behind a refusal a new change fails and is read; two deaths and two failures, either first; a
-    // failure between deaths
+    // behind a refusal a new change fails and is read, fails and dies, or dies and fails; a refusal
+    // between them; two deaths and two failures, either first; a failure between deaths
     const ROWS: &str = "\
 u n; changed /a|filter|unfiltered| => Done 15: 1 ok|2 filtered 1|3 unfiltered 1|/a|; 0+1 0+1
 0 u.n; changed /a|filter|unfiltered| => Done 15: 1 ok|2 filtered 1|3 unfiltered 1|/a|; 0 0+2
 u.n; changed /a|filter|unfiltered| => Done 12: 1 ok|2 filtered 1|3 unfiltered 1|/a|; 0+2
 0 n; changed /a|filter|unfiltered| => Done 13: 1 ok|2 filtered 1|3 unfiltered 1|/a|; 0 0+1
 n.u.1; changed /a|filter|changed /a|filter|query red| => Done 20: 1 ok|2 filtered 1|3 ok|4 filtered 0|5 hits 1 at 19|/a|; 1+2
+n.u 0 1; changed /a|filter|changed /a|filter|query red| => Done 26: 1 ok|2 filtered 1|3 ok|4 filtered 0|5 hits 1 at 25|/a|; 0+2 0 1
+n u.1; changed /a|filter|changed /a|filter|query red| => Done 23: 1 ok|2 filtered 1|3 ok|4 filtered 0|5 hits 1 at 22|/a|; 0+1 1+1
+u.n 0 1; changed /a|filter|changed /a|filter|query red| => Done 26: 1 ok|2 filtered 1|3 ok|4 filtered 0|5 hits 1 at 25|/a|; 0+2 0 1
+0 n.u.1; changed /a|filter|changed /a|filter|query red| => Done 23: 1 ok|2 filtered 1|3 ok|4 filtered 0|5 hits 1 at 22|/a|; 0 1+2
 0 0 u.u.1; changed /a|filter|unfiltered| => Done 18: 1 ok|2 filtered 1|3 unfiltered 1|/a|; 0 0 1+2
 u.u 0 1; changed /a|filter|unfiltered| => Done 17: 1 ok|2 filtered 1|3 unfiltered 1|/a|; 0+2 0
 0 u 1; changed /a|filter|query red| => Done 19: 1 ok|2 filtered 0|3 hits 1 at 18|/a|; 0 0+1 1";
